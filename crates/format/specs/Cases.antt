@@ -1,0 +1,125 @@
+-- The proved cases: one table, computed under one claim. A row has the bytes, the whole answer and the words of all ten lists.
+-- "Cases (P: proved together)".
+use Prim.Native.Nat.{ℕ, _+_, _*_, _/_, _%_}
+use mathlib.Core.Path.{_≡_, refl}
+use mathlib.Core.List.{List, [], _∷_, _++_, map}
+use lib.ListN.{length, replicate}
+use Rattle.blob.specs.Reading.{Outcome, done, refused, demand, run, then, _>>=_, number, many, each}
+use Rattle.blob.specs.Le.{le}
+use Rattle.blob.specs.Laid.{laid, flat}
+use Rattle.format.specs.Name.{nameAt}
+use Rattle.format.specs.Region.{inside, bounded, regionAt}
+use Rattle.format.specs.Table.{signature, TTBL, kindIn, headerAt, tableEnd}
+use Rattle.format.specs.Definition.{guidAt, definitionAt, definitionsAt}
+use Rattle.format.specs.Template.{TEMP, itemsAt, templateAt, templatesAt}
+use Rattle.format.specs.Map.{mapsAt}
+use Rattle.format.specs.Provider.{WEVT, eventsAt, unknownAt, elementOf, elementAt, descriptorAt, providerAt}
+use Rattle.format.specs.Crim.{CRIM, Crim, header, describedAt, providersOf, crim}
+use Rattle.format.specs.Lists.{lastOf, unknowns, ownedTables, ownedUnknowns, tableEntries, mapList, lists}
+use Rattle.format.specs.Answer.{ten, widths, moderate, areas, with-room, reading, counted, answer}
+use Rattle.format.specs.declared.Counts.{Counts}
+use Rattle.format.specs.declared.Answer.{Answer}
+
+-- a word's four bytes
+abbrev four : ℕ → List ℕ
+four w = w % 256 ∷ w / 256 % 256 ∷ w / 65536 % 256 ∷ w / 16777216 ∷ []
+
+-- "Blob Z: `CRIM`, size 16, versions 0, count 0."
+abbrev Z : ℕ → ℕ → List ℕ
+Z size count = flat four (CRIM ∷ size ∷ 0 ∷ count ∷ [])
+
+-- "Blob T: 116 bytes, all words zero but these: `CRIM` 0, size 116, provider count 1, provider offset 36 (at 32); `WEVT` 36, size 80,
+-- one descriptor; descriptor 56 to offset 64; `TTBL` 64, size 52, count 1; `TEMP` 76, size 40."
+abbrev T : (ttbl temp names items : ℕ) → List ℕ
+T ttbl temp names items =
+    flat four (
+    CRIM ∷ 116 ∷ 0 ∷ 1 ∷ 0 ∷ 0 ∷ 0 ∷ 0 ∷ 36
+    ∷ WEVT ∷ 80 ∷ 0 ∷ 1 ∷ 0 ∷ 64 ∷ 0
+    ∷ signature TTBL ∷ ttbl ∷ 1
+    ∷ TEMP ∷ temp ∷ 0 ∷ names ∷ items ∷ 0 ∷ 0 ∷ 0 ∷ 0 ∷ 0 ∷ [])
+
+-- one entry of each list, and words for them
+abbrev one-each : Counts
+one-each =
+    record { providers = 1; descriptors = 1; unknown2 = 1; tables = 1; definitions = 1; events = 1; maps = 1; entries = 1; templates = 1; unknown = 1 }
+
+record Row : Type 0 where
+  answer : Answer
+  lists : List (List ℕ)
+
+abbrev none : Counts
+none = counted []
+
+-- a refusal: no counts, no lists
+abbrev refusal : (code field place first second : ℕ) → Row
+refusal c f p a b = record { answer = record { code = c; field = f; place = p; first = a; second = b; counts = none }; lists = [] }
+
+abbrev listed : Outcome Crim → List (List ℕ)
+listed (done c) = map (flat (λ e. e)) (lists (c .providers))
+listed (refused r) = []
+
+-- what the definition finds of some bytes
+found : List ℕ → Row
+found bytes =
+    let o = reading bytes (replicate (areas (ten one-each) widths) 0) one-each in
+    record { answer = answer o; lists = listed o }
+
+record Case : Type 0 where
+  bytes : List ℕ
+  row : Row
+
+table : List Case
+table =
+    -- "empty: 1, at 0, need 4, have 0"
+    record { bytes = []; row = refusal 1 1 0 4 0 }
+    -- "Z: 0, no entries. Z plus five stray bytes: the same."
+    ∷ record { bytes = Z 16 0; row = empty }
+    ∷ record { bytes = Z 16 0 ++ (1 ∷ 2 ∷ 3 ∷ 4 ∷ 5 ∷ []); row = empty }
+    -- "Z with size 15 or 17: 3, that size. Z with provider count 1: 1 at 16, need 20, have 0."
+    ∷ record { bytes = Z 15 0; row = refusal 3 2 0 15 0 }
+    ∷ record { bytes = Z 17 0; row = refusal 3 2 0 17 0 }
+    ∷ record { bytes = Z 16 1; row = refusal 1 6 16 20 0 }
+    -- "T: one provider, descriptor, table, template; template entry 76, 40, eight zeros, 116, 0."
+    ∷ record { bytes = T 52 40 0 0; row = whole }
+    -- "T with TTBL.size 51: 1 at 76, need 40, have 39. TEMP.size 39: 3 at 76."
+    ∷ record { bytes = T 51 40 0 0; row = refusal 1 80 76 40 39 }
+    ∷ record { bytes = T 52 39 0 0; row = refusal 3 82 76 39 0 }
+    -- "T with items offset 75: 5, 75 against 116. 117: 5, 41 against 40. name count 1: 4 at 88."
+    ∷ record { bytes = T 52 40 0 75; row = refusal 5 85 75 116 0 }
+    ∷ record { bytes = T 52 40 0 117; row = refusal 5 89 41 40 0 }
+    ∷ record { bytes = T 52 40 1 0; row = refusal 4 88 88 1 0 }
+    ∷ []
+  where
+    empty : Row
+    empty =
+        record {
+          answer = record { code = 0; field = 0; place = 0; first = 16; second = 0; counts = none };
+          lists = replicate 10 [] }
+    whole : Row
+    whole =
+        record {
+          answer =
+              record {
+                code = 0; field = 0; place = 0; first = 116; second = 0;
+                counts =
+                    record { providers = 1; descriptors = 1; unknown2 = 0; tables = 1; definitions = 0; events = 0; maps = 0; entries = 0; templates = 1; unknown = 0 } };
+          lists =
+              (0 ∷ 0 ∷ 0 ∷ 0 ∷ 36 ∷ 80 ∷ 0 ∷ 1 ∷ 0 ∷ [])
+              ∷ (64 ∷ 0 ∷ 0x4C425454 ∷ [])
+              ∷ []
+              ∷ (0 ∷ 8 ∷ 64 ∷ 52 ∷ 0 ∷ 0 ∷ 1 ∷ 0 ∷ 0 ∷ [])
+              ∷ []
+              ∷ []
+              ∷ []
+              ∷ []
+              ∷ (76 ∷ 40 ∷ 0 ∷ 0 ∷ 0 ∷ 0 ∷ 0 ∷ 0 ∷ 0 ∷ 0 ∷ 116 ∷ 0 ∷ [])
+              ∷ []
+              ∷ [] }
+
+-- every row is what the definition finds
+cases : map (λ c. found (c .bytes)) table ≡ map (λ c. c .row) table
+unfolding found table
+    demand run then _>>=_ number many each le laid flat nameAt inside bounded regionAt kindIn headerAt tableEnd guidAt definitionAt definitionsAt
+    itemsAt templateAt templatesAt mapsAt eventsAt unknownAt elementOf elementAt descriptorAt providerAt header describedAt providersOf crim
+    lastOf unknowns ownedTables ownedUnknowns tableEntries mapList lists moderate areas with-room reading answer
+cases = refl

@@ -1,0 +1,16 @@
+pub mod Field
+pub mod Refuse
+pub mod Name
+pub mod Region
+pub mod Table
+pub mod Definition
+pub mod Event
+pub mod Template
+pub mod Map
+pub mod Provider
+pub mod Crim
+pub mod Lists
+pub mod Answer
+pub mod Cases
+pub mod Rests
+pub mod Rested

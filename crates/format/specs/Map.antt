@@ -1,0 +1,87 @@
+-- MAPS with VMAP, BMAP and others. "(16 bytes; bytes 12 to 15 not read): region as for TTBL, minimum 16. Count 0 ends there.
+-- count − 1 offsets from byte 16 must fit the blob, not the region (3). Map 0 starts right after them." (layouts)
+use Prim.Native.Nat.{ℕ, zero, suc, _+_, _-_, _*_, min}
+use mathlib.Core.List.{List, [], _∷_}
+use lib.Dec.{leb, eqb}
+use Rattle.blob.specs.declared.Refusal.{Refusal}
+use Rattle.blob.specs.Reading.{Reading, got, room, choose, demand, _>>=_, number, many}
+use Rattle.format.specs.Field.{MAPS-offsets-array, MAPS-map-offset, MAPS-map-signature, VMAP-size-field, VMAP-header, VMAP-size, VMAP-entries-array, VMAP-map-string, table-size}
+use Rattle.format.specs.Refuse.{whole, within, size-out}
+use Rattle.format.specs.Region.{Region, blob-end, until, end, inside, regionAt}
+use Rattle.format.specs.Name.{nameAt, absent}
+use Rattle.format.specs.Table.{MAPS, Header, header-length}
+use Rattle.format.specs.Definition.{step}
+use Rattle.format.specs.declared.Name.{Name}
+use Rattle.format.specs.declared.MapEntry.{MapEntry}
+
+-- a map, with its entries: "1 VMAP, 2 BMAP or 3 other; signature, offset, size, string offset, name .., data start, data length" (the lists)
+pub record Map : Type 0 where
+  pub kind : ℕ
+  pub signature : ℕ
+  pub offset : ℕ
+  pub size : ℕ
+  pub string : ℕ
+  pub name : Name
+  pub entries : List MapEntry
+  pub start : ℕ
+  pub length : ℕ
+
+-- `VMAP` and `BMAP` as little-endian numbers
+abbrev pub VMAP : ℕ
+VMAP = 0x50414D56
+abbrev pub BMAP : ℕ
+BMAP = 0x50414D42
+
+unfoldable pub entryAt : ℕ → Reading MapEntry
+entryAt at = number 4 at >>= λ identifier. number 4 (at + 4) >>= λ message. got (record { identifier = identifier; message = message })
+
+-- "its bytes are as many as its size, cut at the region end; under 16 of them is 1"
+abbrev pub few : Region → ℕ → ℕ → ℕ → Refusal
+few region at size n = record { code = 1; field = VMAP-header; place = at; first = 16; second = min size (end region n - at) }
+
+-- "A VMAP needs 8 bytes (1); its bytes ..; a size past them is 3; entries past the size are 3; then the name. Data is what remains."
+unfoldable pub valueMapAt : Region → ℕ → Reading Map
+valueMapAt region at =
+    whole VMAP-size-field at 8 (
+    number 4 (at + 4) >>= λ size.
+    demand (leb 16 size) (few region at size) (
+    inside region (at + 16) (few region at size) (
+    inside region (at + size) (size-out VMAP-size at size) (
+    number 4 (at + 8) >>= λ string. number 4 (at + 12) >>= λ count.
+    demand (leb (16 + 8 * count) size) (size-out VMAP-entries-array at size) (
+    many entryAt (step 8) count (at + 16) >>= λ entries.
+    nameAt VMAP-map-string string >>= λ name.
+    got (record {
+      kind = 1; signature = VMAP; offset = at; size = size; string = string; name = name; entries = entries;
+      start = at + 16 + 8 * count; length = size - (16 + 8 * count) }))))))
+
+-- "A BMAP or other map gives up to 4 bytes from its place, fewer or none past the region end." (its four signature bytes are in the
+-- blob); "for BMAP and others size, string, first and count are 0" (the lists)
+abbrev pub up-to-4 : Region → ℕ → ℕ
+up-to-4 blob-end at = 4
+up-to-4 (until e) at = min 4 (e - at)
+
+abbrev pub otherMap : Region → ℕ → ℕ → Map
+otherMap region at signature =
+    record {
+      kind = choose (eqb signature BMAP) 2 3; signature = signature; offset = at; size = 0; string = 0; name = absent; entries = [];
+      start = at; length = up-to-4 region at }
+
+-- "A map's place past the blob is 5, its signature cut short 1."
+unfoldable pub mapAt : Region → ℕ → Reading Map
+mapAt region at =
+    within MAPS-map-offset at (
+    whole MAPS-map-signature at 4 (
+    number 4 at >>= λ signature.
+    choose (eqb signature VMAP) (valueMapAt region at) (got (otherMap region at signature))))
+
+-- map 0, then those that the offsets name
+unfoldable pub mapsAt : ℕ → Header → Reading (List Map)
+mapsAt at h =
+    regionAt (table-size MAPS) at (h .size) (header-length MAPS) >>= λ region.
+    choose (eqb (h .count) 0) (got []) (
+    let first = at + 16 + 4 * (h .count - 1) in
+    room first (size-out MAPS-offsets-array at (h .size)) (
+    mapAt region first >>= λ m.
+    many (λ p. number 4 p >>= mapAt region) (step 4) (h .count - 1) (at + 16) >>= λ ms.
+    got (m ∷ ms)))

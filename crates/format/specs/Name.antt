@@ -1,0 +1,54 @@
+-- Names. "offset 0 is absent. Else the offset within the blob (5), a u32 size there (1) of at least 4 (3) that counts itself,
+-- all within the blob (1). Text is little-endian 16-bit units up to the first zero unit or the end; an unpaired surrogate
+-- before that is 6. Start is offset + 4; units are the text's." (layouts)
+use Prim.Native.Nat.{ℕ, zero, suc, _+_, _-_, _/_, _%_}
+use mathlib.Core.Bool.{Bool, true, false, not, _&&_}
+use lib.Dec.{leb, ltb, eqb}
+use Rattle.blob.specs.declared.Refusal.{Refusal}
+use Rattle.blob.specs.Reading.{Reading, got, stop, Outcome, done, refused, choose, demand, _>>=_, number}
+use Rattle.format.specs.Refuse.{whole, within, size-out, not-utf16}
+use Rattle.format.specs.declared.Name.{Name}
+use Rattle.format.specs.declared.NameRead.{NameRead}
+use Rattle.format.specs.declared.NameRead.the-variants as read
+
+-- the first and the second half of a surrogate pair
+abbrev pub high : ℕ → Bool
+high u = leb 0xD800 u && ltb u 0xDC00
+
+abbrev pub low : ℕ → Bool
+low u = leb 0xDC00 u && ltb u 0xE000
+
+-- "Fields a kind lacks, and an absent name's start and units, are 0" (the lists)
+abbrev pub absent : Name
+absent = record { start = 0; units = 0; ended = false }
+
+-- the text's units from a place on: how many are left, how many were read, and whether a high surrogate still waits for its low one
+unfoldable pub text : (field offset : ℕ) → (left at units : ℕ) → Bool → Reading Name
+text f o zero at k waits = demand (not waits) (not-utf16 f o) (got (record { start = o + 4; units = k; ended = false }))
+text f o (suc left) at k waits =
+    number 2 at >>= λ u.
+    choose waits
+    (demand (low u) (not-utf16 f o) (text f o left (at + 2) (k + 1) false))
+    (choose (eqb u 0) (got (record { start = o + 4; units = k; ended = true }))
+    (demand (not (low u)) (not-utf16 f o) (text f o left (at + 2) (k + 1) (high u))))
+
+-- a name that is not absent. The original refuses an odd length before it looks at any unit (docs/DIFFERENCES.md)
+unfoldable pub sized : ℕ → ℕ → Reading Name
+sized f o =
+    within f o (
+    whole f o 4 (
+    number 4 o >>= λ size.
+    demand (leb 4 size) (size-out f o size) (
+    whole f o size (
+    demand (eqb (size % 2) 0) (not-utf16 f o) (
+    text f o ((size - 4) / 2) (o + 4) 0 false)))))
+
+unfoldable pub nameAt : ℕ → ℕ → Reading Name
+nameAt f o = choose (eqb o 0) (got absent) (sized f o)
+
+-- what the code answers for the name at an offset
+abbrev pub nameRead : ℕ → Outcome Name → NameRead
+nameRead zero (done n) = read.Absent
+nameRead (suc o) (done n) = read.Present n
+nameRead zero (refused r) = read.Refused r
+nameRead (suc o) (refused r) = read.Refused r

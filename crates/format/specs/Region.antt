@@ -1,0 +1,37 @@
+-- Regions: where the bytes of a TTBL or a MAPS end.
+-- "size 0 ends the region at the blob end" (TTBL); "region as for TTBL, minimum 16" (MAPS); "Otherwise size under the header or
+-- past the blob is 3" (tables).
+use Prim.Native.Nat.{ℕ, _+_}
+use lib.Dec.{leb, eqb}
+use Rattle.blob.specs.declared.Refusal.{Refusal}
+use Rattle.blob.specs.Reading.{Reading, got, room, Outcome, done, refused, choose, demand, _>>=_}
+use Rattle.format.specs.Refuse.{size-out}
+use Rattle.format.specs.declared.EndRead.{EndRead}
+use Rattle.format.specs.declared.EndRead.the-variants as read
+
+pub data Region : Type 0 where
+  blob-end : Region
+  until : ℕ → Region
+
+-- where it ends, in a blob of n bytes
+abbrev pub end : Region → ℕ → ℕ
+end blob-end n = n
+end (until e) n = e
+
+-- go on where a place is not past the region's end
+unfoldable pub inside : {A : Type 0} → Region → ℕ → (ℕ → Refusal) → Reading A → Reading A
+inside blob-end p r k = room p r k
+inside (until e) p r k = demand (leb p e) r k
+
+-- a size that is not 0 is at least so much, and ends within the blob
+unfoldable pub bounded : ℕ → ℕ → ℕ → ℕ → Reading ℕ
+bounded f at size least = demand (leb least size) (size-out f at size) (room (at + size) (size-out f at size) (got (at + size)))
+
+-- the region of a structure that has a size word
+unfoldable pub regionAt : ℕ → ℕ → ℕ → ℕ → Reading Region
+regionAt f at size least = choose (eqb size 0) (got blob-end) (bounded f at size least >>= λ e. got (until e))
+
+-- what the code answers for a region, in a blob of n bytes
+abbrev pub endRead : ℕ → Outcome Region → EndRead
+endRead n (done r) = read.End (end r n)
+endRead n (refused r) = read.Refused r

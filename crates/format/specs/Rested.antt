@@ -1,0 +1,294 @@
+-- The reading asks for the bytes of Rests, for no other, and each of them lies in the blob.
+use Prim.{Unit, tt}
+use Prim.Native.Nat.{ℕ, zero, suc, _+_, _-_, _*_, _/_, _%_, _≤_, _<_}
+use mathlib.Core.Path.{_≡_, refl, ap, sym, _∙_, subst}
+use mathlib.Core.Bool.{Bool, true, false, not}
+use mathlib.Core.List.{List, [], _∷_, _++_, append-assoc, append-nil}
+use native.Mathlib.Nat.{mul-suc}
+use native.Mathlib.Omega.{arith}
+use lib.ListN.{length}
+use lib.Dec.{leb, eqb}
+use borrow.Author.Tests.{leb-true, eqb-true, eqb-false}
+use Rattle.blob.specs.Le.{le}
+use Rattle.blob.specs.Laid.{flat}
+use Rattle.blob.specs.Places.{Each, span, rows}
+use Rattle.blob.specs.declared.Refusal.{Refusal}
+use Rattle.blob.specs.Reading.{Reading, got, choose, run, _>>=_, number, many}
+use Rattle.blob.specs.Asks.{Finds, finds-got, finds-stop, finds-room, finds-choose, finds-demand, finds-bind, finds-so, finds-fixed, finds-number-asked, finds-next, finds-many, finds-each, Asked, asked-none, asked-append, asked-last, asked-span, asked-join, span-append, span-join, inside-span}
+use Rattle.format.specs.Name.{text, sized, nameAt, absent, low, high}
+use Rattle.format.specs.Region.{Region, blob-end, until, inside, bounded, regionAt}
+use Rattle.format.specs.Table.{CHAN, EVNT, KEYW, LEVL, MAPS, OPCO, TASK, TTBL, Header, signature, kinds, kindIn, header-length, stride, headerAt, tableEnd}
+use Rattle.format.specs.Definition.{guidAt, channelAt, keywordAt, taskAt, plainAt, definitionAt, definitionsAt, step}
+use Rattle.format.specs.Event.{eventAt}
+use Rattle.format.specs.Template.{itemsAt, templateAt, templatesAt, next}
+use Rattle.format.specs.Map.{Map, VMAP, BMAP, entryAt, valueMapAt, otherMap, mapAt, mapsAt}
+use Rattle.format.specs.Provider.{Element, Provider, definitions, plain, elementOf, eventsAt, unknownAt, elementAt, descriptorAt, providerAt}
+use Rattle.format.specs.Crim as Crim
+use Rattle.format.specs.Crim.{describedAt, providersOf}
+use Rattle.format.specs.Rests.{nameBytes, definitionBytes, mapBytes, mapsBytes, tableBytes, elementBytes, descriptorBytes, providerBytes, providersBytes, restsOn}
+use Rattle.format.specs.declared.Name.{Name}
+use Rattle.format.specs.declared.Guid.{Guid}
+use Rattle.format.specs.declared.Definition.{Definition}
+use Rattle.format.specs.declared.Event.{Event}
+use Rattle.format.specs.declared.Descriptor.{Descriptor}
+use Rattle.format.specs.declared.MapEntry.{MapEntry}
+use Rattle.format.specs.declared.Items.{Items}
+use Rattle.format.specs.declared.Items.the-variants as items
+use Rattle.format.specs.declared.Template.{Template}
+use Rattle.format.specs.declared.TemplatePlace.{TemplatePlace}
+
+-- a span told by another width
+asked-exact : {s : List ℕ} (at w v : ℕ) → w ≡ v → at + w ≤ length s → Asked s (span at w) (span at v)
+asked-exact at w v e h = rw (sym e) (asked-span at w h)
+
+-- nothing was asked for where a span has no places
+asked-empty : {s : List ℕ} (at w : ℕ) → w ≡ 0 → Asked s [] (span at w)
+unfolding span
+asked-empty at w h = rw h asked-none
+
+-- what holds of each of some kinds, and of none, holds of the kind that a signature names
+kind-cases : (P : ℕ → Type 0) (ks : List ℕ) (sig : ℕ) → P 0 → Each P ks → P (kindIn ks sig)
+unfolding kindIn
+kind-cases P [] sig none h = none
+kind-cases P (k ∷ ks) sig none h = go (eqb sig (signature k)) (kind-cases P ks sig none (h .1))
+  where
+    go : (t : Bool) → P (kindIn ks sig) → P (choose t k (kindIn ks sig))
+    go true ih = h .0
+    go false ih = ih
+
+module _ (s : List ℕ) where
+  -- how a text goes on from a place: so many units more, and the zero unit that ended it
+  abbrev unitBytes : ℕ → ℕ → Name → List ℕ
+  unitBytes at k n = span at (2 * (n .units - k) + choose (n .ended) 2 0)
+
+  -- from `at` on, with k units read before
+  text-asks : (f o left at k : ℕ) (waits : Bool) → at + 2 * left ≤ length s
+      → Finds (text f o left at k waits) s (λ n ps. (k ≤ n .units) × Asked s ps (unitBytes at k n))
+  unfolding text
+  text-asks f o zero at k waits h = finds-demand _ _ (λ e. finds-got (omega arith, asked-empty at _ (omega arith)))
+  text-asks f o (suc left) at k waits h =
+      finds-next 2 at (λ u e. finds-choose waits (λ w. finds-demand _ _ (λ l. more (text-asks f o left (at + 2) (k + 1) false (omega arith))))
+      (λ w. finds-choose (eqb u 0) (λ z. finds-got (omega arith, asked-last (asked-exact at 2 _ (omega arith) (omega arith))))
+      (λ z. finds-demand _ _ (λ l. more (text-asks f o left (at + 2) (k + 1) (high u) (omega arith))))))
+    where
+      longer : (n : Name) (qs : List ℕ) → (k + 1 ≤ n .units) × Asked s qs (unitBytes (at + 2) (k + 1) n) → (k ≤ n .units) × Asked s (span at 2 ++ qs) (unitBytes at k n)
+      longer n qs g =
+          let e : 2 + (2 * (n .units - (k + 1)) + choose (n .ended) 2 0) ≡ 2 * (n .units - k) + choose (n .ended) 2 0 = omega (arith, g .0) in
+          (omega (arith, g .0), subst (λ w. Asked s (span at 2 ++ qs) (span at w)) e (asked-join at 2 _ (omega arith) (g .1)))
+      more : {r : Reading Name} → Finds r s (λ n qs. (k + 1 ≤ n .units) × Asked s qs (unitBytes (at + 2) (k + 1) n))
+          → Finds r s (λ n qs. (k ≤ n .units) × Asked s (span at 2 ++ qs) (unitBytes at k n))
+      more ih = finds-so ih longer
+
+  name-asks : (f o : ℕ) → Finds (nameAt f o) s (λ n ps. Asked s ps (nameBytes o n))
+  unfolding nameAt sized nameBytes
+  name-asks f o =
+      finds-choose (eqb o 0) (λ e. finds-got (rw e asked-none)) (λ e.
+      finds-room (λ a. finds-room (λ b. finds-next 4 o (λ size es. finds-demand _ _ (λ d. finds-room (λ w. finds-demand _ _ (λ v.
+      let four : 4 ≤ size = leb-true 4 size d in
+      finds-so (text-asks f o ((size - 4) / 2) (o + 4) 0 false (omega arith)) (λ n qs g.
+      rw e (subst (λ w. Asked s (span o 4 ++ qs) (span o 4 ++ span (o + 4) w)) (omega arith) (asked-append (asked-span o 4 b) (g .1)))))))))))
+
+  guid-asks : (at : ℕ) → Finds (guidAt at) s (λ g ps. (span at 16 ≡ ps) × Unit {0})
+  unfolding guidAt
+  guid-asks at =
+      finds-next 4 at (λ a ea. finds-next 4 (at + 4) (λ b eb. finds-next 4 (at + 8) (λ c ec. finds-next 4 (at + 12) (λ d ed.
+      finds-got (simp (span-join, span-append, append-nil), tt)))))
+
+  -- the fields are those of a record of so many bytes, and the name follows
+  channel-asks : (at : ℕ) → at + 16 ≤ length s → Finds (channelAt at) s (λ d ps. Asked s ps (definitionBytes CHAN at d))
+  unfolding channelAt
+  channel-asks at h =
+      finds-next 4 at (λ i ei. finds-next 4 (at + 4) (λ o eo. finds-next 4 (at + 8) (λ u eu. finds-next 4 (at + 12) (λ m em.
+      finds-bind _ (name-asks _ o) (λ n ps g. finds-got (simp (span-join, append-nil) (asked-append (asked-span at 16 h) g)))))))
+
+  keyword-asks : (at : ℕ) → at + 16 ≤ length s → Finds (keywordAt at) s (λ d ps. Asked s ps (definitionBytes KEYW at d))
+  unfolding keywordAt
+  keyword-asks at h =
+      finds-next 4 at (λ i ei. finds-next 4 (at + 4) (λ j ej. finds-next 4 (at + 8) (λ m em. finds-next 4 (at + 12) (λ o eo.
+      finds-bind _ (name-asks _ o) (λ n ps g. finds-got (simp (span-join, append-nil) (asked-append (asked-span at 16 h) g)))))))
+
+  task-asks : (at : ℕ) → at + 28 ≤ length s → Finds (taskAt at) s (λ d ps. Asked s ps (definitionBytes TASK at d))
+  unfolding taskAt
+  task-asks at h =
+      finds-next 4 at (λ i ei. finds-next 4 (at + 4) (λ m em. finds-fixed _ _ (guid-asks (at + 8)) (λ u eu. finds-next 4 (at + 24) (λ o eo.
+      finds-bind _ (name-asks _ o) (λ n ps g. finds-got (simp (span-join, append-nil) (asked-append (asked-span at 28 h) g)))))))
+
+  plain-asks : (k f at : ℕ) → stride k ≡ 12 → at + stride k ≤ length s → Finds (plainAt k f at) s (λ d ps. Asked s ps (definitionBytes k at d))
+  unfolding plainAt
+  plain-asks k f at e h =
+      finds-next 4 at (λ i ei. finds-next 4 (at + 4) (λ m em. finds-next 4 (at + 8) (λ o eo.
+      finds-bind _ (name-asks f o) (λ n ps g. finds-got (rw e (simp (span-join, append-nil) (asked-append (asked-span at 12 (rw e at h)) g)))))))
+
+  event-asks : (at : ℕ) → at + 48 ≤ length s → Finds (eventAt at) s (λ e ps. Asked s ps (span at 48))
+  unfolding eventAt
+  event-asks at h =
+      finds-next 2 at (λ _ _. finds-next 1 (at + 2) (λ _ _. finds-next 1 (at + 3) (λ _ _. finds-next 1 (at + 4) (λ _ _.
+      finds-next 1 (at + 5) (λ _ _. finds-next 2 (at + 6) (λ _ _. finds-next 4 (at + 8) (λ _ _. finds-next 4 (at + 12) (λ _ _.
+      finds-next 4 (at + 16) (λ _ _. finds-next 4 (at + 20) (λ _ _. finds-next 4 (at + 24) (λ _ _. finds-next 4 (at + 28) (λ _ _.
+      finds-next 4 (at + 32) (λ _ _. finds-next 4 (at + 36) (λ _ _. finds-next 4 (at + 40) (λ _ _. finds-next 4 (at + 44) (λ _ _.
+      finds-got (simp (span-join, span-append, append-nil) (asked-span at 48 h))))))))))))))))))
+
+  header-asks : (k at : ℕ) → Finds (headerAt k at) s (λ h ps. (span at 12 ≡ ps) × (at + header-length k ≤ length s))
+  unfolding headerAt
+  header-asks k at =
+      finds-room (λ a. finds-room (λ b. finds-next 4 at (λ f ef. finds-demand _ _ (λ d. finds-next 4 (at + 4) (λ z ez. finds-next 4 (at + 8) (λ c ec.
+      finds-got (simp (span-join, span-append, append-nil), b)))))))
+
+  bounded-asks : (f at size least : ℕ) → Finds (bounded f at size least) s (λ e ps. ([] ≡ ps) × (e ≤ length s))
+  unfolding bounded
+  bounded-asks f at size least = finds-demand _ _ (λ d. finds-room (λ h. finds-got (refl, h)))
+
+  -- a region that ends at a place ends within the blob
+  abbrev Ends : Region → Type 0
+  Ends blob-end = Unit {0}
+  Ends (until e) = e ≤ length s
+
+  region-asks : (f at size least : ℕ) → Finds (regionAt f at size least) s (λ r ps. ([] ≡ ps) × Ends r)
+  unfolding regionAt
+  region-asks f at size least =
+      finds-choose (eqb size 0) (λ e. finds-got (refl, tt)) (λ e. finds-fixed [] _ (bounded-asks f at size least) (λ e h. finds-got (refl, h)))
+
+  finds-inside : {A : Type 0} {P : A → List ℕ → Type 0} (r : Region) (p : ℕ) (x : ℕ → Refusal) {k : Reading A} → Ends r → (p ≤ length s → Finds k s P) → Finds (inside r p x k) s P
+  unfolding inside
+  finds-inside blob-end p x h g = finds-room g
+  finds-inside (until e) p x h g = finds-demand (leb p e) x (λ t. g (omega (arith, leb-true p e t)))
+
+  end-asks : (k at : ℕ) (h : Header) → Finds (tableEnd k at h) s (λ e ps. ([] ≡ ps) × (at + header-length k + stride k * h .count ≤ length s))
+  unfolding tableEnd
+  end-asks k at h =
+      finds-choose (eqb (h .size) 0) (λ e. finds-room (λ w. finds-got (refl, w)))
+      (λ e. finds-fixed [] _ (bounded-asks _ at (h .size) _) (λ x b. finds-demand _ _ (λ t. finds-got (refl, omega (arith, leb-true (at + header-length k + stride k * h .count) x t)))))
+
+  items-asks : (size : ℕ) (i : Items) → Finds (itemsAt size i) s (λ t ps. ([] ≡ ps) × Unit {0})
+  unfolding itemsAt
+  items-asks size (items.At t) = finds-got (refl, tt)
+  items-asks size (items.Before b) = finds-stop
+  items-asks size (items.Past t) = finds-stop
+
+  template-asks : (r : Region) (at : ℕ) → Ends r → Finds (templateAt r at) s (λ t ps. Asked s ps (span at 40))
+  unfolding templateAt
+  template-asks r at h =
+      finds-inside r _ _ h (λ w. finds-next 4 at (λ f ef. finds-demand _ _ (λ d. finds-next 4 (at + 4) (λ z ez. finds-demand _ _ (λ l.
+      finds-inside r _ _ h (λ e. finds-next 4 (at + 8) (λ _ _. finds-next 4 (at + 12) (λ _ _. finds-next 4 (at + 16) (λ o eo. finds-next 4 (at + 20) (λ _ _.
+      finds-fixed _ _ (guid-asks (at + 24)) (λ g eg. finds-demand _ _ (λ c. finds-fixed [] _ (items-asks _ _) (λ t et.
+      finds-got (simp (span-join, span-append, append-nil) (asked-span at 40 w)))))))))))))))
+
+  templates-asks : (at : ℕ) (h : Header) → Finds (templatesAt at h) s (λ ts ps. Asked s ps (rows (λ p t. span p 40) next (at + 12) ts))
+  unfolding templatesAt
+  templates-asks at h =
+      finds-fixed [] _ (region-asks _ at (h .size) _) (λ r e.
+      finds-so (finds-many (λ n p. Unit {0}) (λ p t. span p 40) (λ n p u. finds-so (template-asks r p e) (λ t ps g. (g, tt))) (h .count) (at + 12) tt) (λ ts ps g. g .0))
+
+  entry-asks : (at : ℕ) → at + 8 ≤ length s → Finds (entryAt at) s (λ e ps. Asked s ps (span at 8))
+  unfolding entryAt
+  entry-asks at h = finds-next 4 at (λ i ei. finds-next 4 (at + 4) (λ m em. finds-got (simp (span-append, append-nil) (asked-span at 8 h))))
+
+  -- records of one length in a row, which fit the blob together
+  finds-rows : {A : Type 0} {p : ℕ → Reading A} (w : ℕ) (q : ℕ → A → List ℕ) → ((at : ℕ) → at + w ≤ length s → Finds (p at) s (λ a ps. Asked s ps (q at a)))
+      → (n at : ℕ) → at + w * n ≤ length s → Finds (many p (step w) n at) s (λ vs ps. Asked s ps (rows q (step w) at vs) × (length vs ≡ n))
+  finds-rows w q one =
+      finds-many (λ n at. at + w * n ≤ length s) q (λ n at i.
+      let j : at + (w * n + w) ≤ length s = rw mul-suc at i in finds-so (one at (omega arith)) (λ a ps g. (g, omega arith)))
+
+  -- its signature's bytes come before
+  value-map-asks : (r : Region) (at : ℕ) → Ends r → Finds (valueMapAt r at) s (λ m ps. Asked s (span at 4 ++ ps) (mapBytes m))
+  unfolding valueMapAt mapBytes
+  value-map-asks r at h =
+      finds-room (λ a. finds-next 4 (at + 4) (λ z ez. finds-demand _ _ (λ l. finds-inside r _ _ h (λ b. finds-inside r _ _ h (λ w.
+      finds-next 4 (at + 8) (λ o eo. finds-next 4 (at + 12) (λ n en. finds-demand _ _ (λ t.
+      finds-bind _ (finds-rows 8 (λ p e. span p 8) entry-asks n (at + 16) (omega (arith, leb-true (16 + 8 * n) z t))) (λ es ps g.
+      finds-bind _ (name-asks _ o) (λ m qs k.
+      finds-got (simp (span-join, append-nil) (asked-append (asked-span at 16 b) (asked-append (g .0) k)))))))))))))
+
+  other-map-asks : (r : Region) (at sig : ℕ) → at + 4 ≤ length s → Asked s (span at 4) (mapBytes (otherMap r at sig))
+  unfolding mapBytes
+  other-map-asks r at sig h = go (eqb sig BMAP)
+    where
+      go : (t : Bool) → Asked s (span at 4) (choose (eqb (choose t 2 3) 1) (span at 16 ++ (rows {A = MapEntry} (λ p e. span p 8) (step 8) (at + 16) [] ++ nameBytes 0 absent)) (span at 4))
+      go true = asked-span at 4 h
+      go false = asked-span at 4 h
+
+  map-asks : (r : Region) (at : ℕ) → Ends r → Finds (mapAt r at) s (λ m ps. Asked s ps (mapBytes m))
+  unfolding mapAt
+  map-asks r at h =
+      finds-room (λ a. finds-room (λ b. finds-next 4 at (λ sig e. finds-choose (eqb sig VMAP) (λ v. value-map-asks r at h)
+      (λ v. finds-got (asked-last (other-map-asks r at sig b))))))
+
+  maps-asks : (at : ℕ) (h : Header) → Finds (mapsAt at h) s (λ ms ps. Asked s ps (mapsBytes at ms))
+  unfolding mapsAt mapsBytes
+  maps-asks at h =
+      finds-fixed [] _ (region-asks _ at (h .size) _) (λ r e. finds-choose (eqb (h .count) 0) (λ z. finds-got asked-none) (λ z. finds-room (λ b.
+      finds-bind _ (map-asks r _ e) (λ m ps g.
+      finds-bind _ (finds-rows 4 (λ p n. span p 4 ++ mapBytes n) (λ p k. finds-next 4 p (λ o eo. finds-so (map-asks r o e) (λ m ps g. asked-append (asked-span p 4 k) g))) (h .count - 1) (at + 16) b)
+      (λ ms qs k. finds-got (asked-append g (asked-last (k .0))))))))
+
+  events-asks : (at : ℕ) → Finds (eventsAt at) s (λ e ps. Asked s ps (elementBytes e))
+  unfolding eventsAt elementBytes tableBytes
+  events-asks at =
+      finds-fixed _ _ (header-asks EVNT at) (λ h w. finds-fixed [] _ (end-asks EVNT at h) (λ e f. finds-next 4 (at + 12) (λ x ex.
+      finds-bind _ (finds-rows 48 (λ p e. span p 48) event-asks (h .count) (at + 16) f) (λ es ps g.
+      finds-got (simp (span-join, append-nil) (asked-append (asked-span at 16 w) (g .0)))))))
+
+  unknown-asks : (at : ℕ) → Finds (unknownAt at) s (λ e ps. Asked s ps (elementBytes e))
+  unfolding unknownAt elementBytes
+  unknown-asks at =
+      finds-room (λ a. finds-room (λ b. finds-next 4 at (λ sig e. finds-next 4 (at + 4) (λ z ez. finds-room (λ w.
+      finds-got (simp (span-append, append-nil) (asked-span at 8 b)))))))
+
+  -- a table of definitions, of a kind whose records are as `one` says
+  definitions-asks : (k at : ℕ) → header-length k ≡ 12 → ((p : ℕ) → p + stride k ≤ length s → Finds (definitionAt k p) s (λ d ps. Asked s ps (definitionBytes k p d)))
+      → Finds (headerAt k at >>= λ h. definitionsAt k at h >>= λ ds. got (plain k at (h .size) (definitions ds))) s (λ e ps. Asked s ps (elementBytes e))
+  unfolding definitionsAt elementBytes tableBytes
+  definitions-asks k at l one =
+      finds-fixed _ _ (header-asks k at) (λ h w. let w12 : at + 12 ≤ length s = rw l at w in
+      finds-bind (λ ds ps. Asked s ps (rows (definitionBytes k) (step (stride k)) (at + 12) ds) × (length ds ≡ h .count)) (finds-fixed [] _ (end-asks k at h) (λ e f. let f12 : at + 12 + stride k * h .count ≤ length s = rw l at f in
+      rw l (finds-rows (stride k) (definitionBytes k) one (h .count) (at + 12) f12))) (λ ds ps g.
+      finds-got (asked-append (asked-span at 12 w12) (asked-last (g .0)))))
+
+  element-asks : (d : Descriptor) → Finds (elementAt d) s (λ e ps. Asked s ps (elementBytes e))
+  unfolding elementAt elementOf definitionAt elementBytes tableBytes
+  element-asks d =
+      kind-cases (λ k. Finds (elementOf k (d .offset)) s (λ e ps. Asked s ps (elementBytes e))) kinds (d .signature)
+      (unknown-asks at)
+      (definitions-asks CHAN at refl channel-asks,
+      (events-asks at,
+      (definitions-asks KEYW at refl keyword-asks,
+      (definitions-asks LEVL at refl (λ p. plain-asks LEVL _ p refl),
+      (finds-fixed _ _ (header-asks MAPS at) (λ h w. finds-bind _ (maps-asks at h) (λ ms ps g. finds-got (asked-append (asked-span at 12 (omega arith)) (asked-last g)))),
+      (definitions-asks OPCO at refl (λ p. plain-asks OPCO _ p refl),
+      (definitions-asks TASK at refl task-asks,
+      (finds-fixed _ _ (header-asks TTBL at) (λ h w. finds-bind _ (templates-asks at h) (λ ts ps g. finds-got (asked-append (asked-span at 12 w) (asked-last g)))),
+      tt))))))))
+    where
+      at : ℕ
+      at = d .offset
+
+  descriptor-asks : (at : ℕ) → at + 8 ≤ length s → Finds (descriptorAt at) s (λ d ps. Asked s ps (descriptorBytes at d))
+  unfolding descriptorAt
+  descriptor-asks at h =
+      finds-next 4 at (λ o eo. finds-next 4 (at + 4) (λ u eu. finds-room (λ a. finds-room (λ b. finds-next 4 o (λ sig e.
+      finds-got (simp (span-join, append-nil) (asked-append (asked-span at 8 h) (asked-span o 4 b))))))))
+
+  word-asks : (at : ℕ) → at + 4 ≤ length s → Finds (number 4 at) s (λ w ps. Asked s ps (span at 4))
+  word-asks at h = finds-so (finds-number-asked 4 at) (λ w ps e. subst (λ l. Asked s l (span at 4)) (e .0) (asked-span at 4 h))
+
+  provider-asks : (g : Guid) (at : ℕ) → Finds (providerAt g at) s (λ p ps. Asked s ps (providerBytes p))
+  unfolding providerAt providerBytes
+  provider-asks g at =
+      finds-room (λ a. finds-room (λ b. finds-next 4 at (λ f ef. finds-demand _ _ (λ w.
+      finds-next 4 (at + 4) (λ _ _. finds-next 4 (at + 8) (λ _ _. finds-next 4 (at + 12) (λ n en. finds-next 4 (at + 16) (λ u eu.
+      finds-room (λ c. finds-bind _ (finds-rows 8 descriptorBytes descriptor-asks n (at + 20) c) (λ ds ps gd.
+      finds-room (λ e. finds-bind _ (finds-rows 4 (λ p w. span p 4) word-asks u (at + 20 + 8 * n) e) (λ us qs gu.
+      finds-bind _ (finds-each elementBytes element-asks ds) (λ es rs ge.
+      finds-got (simp (span-join, append-nil) (rw (gd .1) (asked-append (asked-span at 20 b) (asked-append (gd .0) (asked-append (gu .0) ge))))))))))))))))))
+
+  described-asks : (at : ℕ) → at + 20 ≤ length s → Finds (describedAt at) s (λ p ps. Asked s ps (span at 20 ++ providerBytes p))
+  unfolding describedAt
+  described-asks at h =
+      finds-fixed _ _ (guid-asks at) (λ g eg. finds-next 4 (at + 16) (λ o eo. finds-so (provider-asks g o) (λ p ps a.
+      simp (span-join) (asked-append (asked-span at 20 h) a))))
+
+  -- all that is read of the providers
+  pub providers-asked : (h : Crim.Header) → Finds (providersOf h) s (λ ps qs. Asked s qs (providersBytes ps))
+  unfolding providersOf
+  providers-asked h = finds-room (λ a. finds-so (finds-rows 20 (λ at p. span at 20 ++ providerBytes p) described-asks (h .count) 16 a) (λ ps qs g. g .0))

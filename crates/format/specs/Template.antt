@@ -1,0 +1,71 @@
+-- TTBL and TEMP. "TEMPs lie one after another from byte 12. Each: 40 bytes before the region end (1), signature, size at least 40 (3),
+-- end within the region (3); item count 0 with name count not 0 is 4 at TEMP + 12." (layouts)
+use Prim.Native.Nat.{ℕ, _+_, _-_}
+use mathlib.Core.Bool.{Bool, not, _||_}
+use mathlib.Core.List.{List}
+use lib.Dec.{leb, ltb, eqb}
+use Rattle.blob.specs.declared.Refusal.{Refusal}
+use Rattle.blob.specs.Reading.{Reading, got, stop, choose, demand, _>>=_, number, many}
+use Rattle.format.specs.Field.{TEMP-header, TEMP-size, TEMP-item-name-count-expected-0, TEMP-template-items-offset, TEMP-template-items-offset-relative, table-size}
+use Rattle.format.specs.Refuse.{truncated, wrong-signature, size-out, count-out, offset-out}
+use Rattle.format.specs.Region.{Region, end, inside, regionAt}
+use Rattle.format.specs.Table.{TTBL, Header, header-length}
+use Rattle.format.specs.Definition.{guidAt}
+use Rattle.format.specs.declared.BlobPlace.{BlobPlace}
+use Rattle.format.specs.declared.TemplatePlace.{TemplatePlace}
+use Rattle.format.specs.declared.Items.{Items}
+use Rattle.format.specs.declared.Items.the-variants as items
+use Rattle.format.specs.declared.Template.{Template}
+
+-- `TEMP` as a little-endian number
+abbrev pub TEMP : ℕ
+TEMP = 0x504D4554
+
+-- "Offsets from the blob's start and offsets from a template's start are counted apart."
+abbrev pub blob-place : ℕ → BlobPlace
+blob-place n = record { 0 = n }
+
+abbrev pub template-place : ℕ → TemplatePlace
+template-place n = record { 0 = n }
+
+-- "Items offset 0 counts as the TEMP's end." The TEMP's place and size, and its items offset
+abbrev pub itemsOf : BlobPlace → ℕ → BlobPlace → Items
+itemsOf temp size offset =
+    choose (eqb (offset .0) 0) (items.At (template-place size)) (
+    choose (ltb (offset .0) (temp .0)) (items.Before offset) (
+    choose (leb (offset .0 - temp .0) size) (items.At (template-place (offset .0 - temp .0)))
+    (items.Past (template-place (offset .0 - temp .0)))))
+
+-- "An items offset before the TEMP is 5 with the blob offset and blob length; one past its end is 5 with the offset relative to the
+-- TEMP and the TEMP's size." The TEMP's size, and what was found of its items
+unfoldable pub itemsAt : ℕ → Items → Reading TemplatePlace
+itemsAt size (items.At t) = got t
+itemsAt size (items.Before b) = stop (offset-out TEMP-template-items-offset (b .0))
+itemsAt size (items.Past t) = stop (λ n. offset-out TEMP-template-items-offset-relative (t .0) size)
+
+-- "BinXML runs from TEMP byte 40 to the items; items below 40 give length 0, start still TEMP + 40."
+unfoldable pub templateAt : Region → ℕ → Reading Template
+templateAt region at =
+    inside region (at + 40) (λ n. truncated TEMP-header at 40 (end region n)) (
+    number 4 at >>= λ found.
+    demand (eqb found TEMP) (wrong-signature at TEMP found) (
+    number 4 (at + 4) >>= λ size.
+    demand (leb 40 size) (size-out TEMP-size at size) (
+    inside region (at + size) (size-out TEMP-size at size) (
+    number 4 (at + 8) >>= λ descriptors. number 4 (at + 12) >>= λ names. number 4 (at + 16) >>= λ offset. number 4 (at + 20) >>= λ event.
+    guidAt (at + 24) >>= λ guid.
+    demand (not (eqb descriptors 0) || eqb names 0) (count-out TEMP-item-name-count-expected-0 (at + 12) names) (
+    itemsAt size (itemsOf (blob-place at) size (blob-place offset)) >>= λ t.
+    got (record {
+      offset = at; size = size; descriptors = descriptors; names = names; items = offset; event = event; guid = guid;
+      start = at + 40; length = t .0 - 40 }))))))
+
+-- the next TEMP stands behind this one
+abbrev pub next : Template → ℕ → ℕ
+next t at = at + t .size
+
+-- "size 0 ends the region at the blob end"
+unfoldable pub templatesAt : ℕ → Header → Reading (List Template)
+templatesAt at h =
+    regionAt (table-size TTBL) at (h .size) (header-length TTBL) >>= λ region.
+    many (templateAt region) next (h .count) (at + header-length TTBL)

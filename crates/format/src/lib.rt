@@ -1,0 +1,158 @@
+// The types that the definition of the format speaks of, and that the code reads into. What is right stands in specs/.
+use blob::Refusal;
+
+// A GUID: its 16 bytes as little-endian words.
+pub struct Guid {
+    pub a: u32,
+    pub b: u32,
+    pub c: u32,
+    pub d: u32,
+}
+
+// A sized name: where its text starts, the text's units, and whether a zero unit ended it. An absent name's are 0, 0, false.
+pub struct Name {
+    pub start: u32,
+    pub units: u32,
+    pub ended: bool,
+}
+
+// What reading a name finds; absent at offset 0.
+pub enum NameRead {
+    Absent,
+    Present(Name),
+    Refused(Refusal),
+}
+
+// What reading a region's size finds: where the region ends.
+pub enum EndRead {
+    End(usize),
+    Refused(Refusal),
+}
+
+// A record of CHAN, KEYW, LEVL, OPCO or TASK, one entry type for all five.
+pub struct Definition {
+    pub kind: u32,
+    pub low: u32,
+    pub high: u32,
+    pub message: u32,
+    pub offset: u32,
+    pub name: Name,
+    pub unknown: u32,
+    pub mui: Guid,
+}
+
+// A record of EVNT: the fields of the original's EventDefinition, in order, keywords as low and high.
+pub struct Event {
+    pub identifier: u32,
+    pub version: u32,
+    pub channel: u32,
+    pub level: u32,
+    pub opcode: u32,
+    pub task: u32,
+    pub low: u32,
+    pub high: u32,
+    pub message: u32,
+    pub template: u32,
+    pub opcode_offset: u32,
+    pub level_offset: u32,
+    pub task_offset: u32,
+    pub unknown_count: u32,
+    pub unknown_offset: u32,
+    pub flags: u32,
+}
+
+// An offset from the blob's start.
+pub struct BlobPlace(pub u32);
+
+// An offset from a template's start.
+pub struct TemplatePlace(pub u32);
+
+// Where a template's items stand: at a place of the template, before it in the blob, or past its end.
+pub enum Items {
+    At(TemplatePlace),
+    Before(BlobPlace),
+    Past(TemplatePlace),
+}
+
+// A TEMP.
+pub struct Template {
+    pub offset: u32,
+    pub size: u32,
+    pub descriptors: u32,
+    pub names: u32,
+    pub items: u32,
+    pub event: u32,
+    pub guid: Guid,
+    pub start: u32,
+    pub length: u32,
+}
+
+// An entry of a VMAP.
+pub struct MapEntry {
+    pub identifier: u32,
+    pub message: u32,
+}
+
+// A provider's element descriptor, with its element's signature.
+pub struct Descriptor {
+    pub offset: u32,
+    pub unknown: u32,
+    pub signature: u32,
+}
+
+// An element of no known kind.
+pub struct Unknown {
+    pub signature: u32,
+    pub offset: u32,
+    pub size: u32,
+}
+
+// A number for each of the ten lists, in list order: entry counts, or capacities.
+pub struct Counts {
+    pub providers: u32,
+    pub descriptors: u32,
+    pub unknown2: u32,
+    pub tables: u32,
+    pub definitions: u32,
+    pub events: u32,
+    pub maps: u32,
+    pub entries: u32,
+    pub templates: u32,
+    pub unknown: u32,
+}
+
+// The answer of a reading.
+pub struct Answer {
+    pub code: u8,
+    pub field: u8,
+    pub place: u64,
+    pub first: u64,
+    pub second: u64,
+    pub counts: Counts,
+}
+
+// What an event is looked up by.
+pub struct Key {
+    pub guid: Guid,
+    pub identifier: u32,
+    pub version: u32,
+    pub channel: u32,
+    pub level: u32,
+    pub opcode: u32,
+    pub task: u32,
+    pub low: u32,
+    pub high: u32,
+}
+
+// What the lookup by offset finds: the number of a template entry.
+pub enum TemplateFound {
+    Number(u32),
+    Nothing,
+    Refused(Refusal),
+}
+
+// What the lookup by key finds: how many GUIDs it gave.
+pub enum GuidsFound {
+    Given(u32),
+    Refused(Refusal),
+}

@@ -1,0 +1,531 @@
+//! The original's answer to a blob, in the port's form: a code, a field code, a
+//! place, two numbers and ten lists of 32-bit words.
+
+use std::fmt;
+
+use original::Guid;
+use original::wevt_templates::manifest::{
+    ChannelDefinitions, CrimManifest, EventDefinitions, KeywordDefinitions, LevelDefinitions,
+    MapDefinition, MapsDefinitions, OpcodeDefinitions, Provider, TaskDefinitions, TemplateTable,
+    WevtManifestError,
+};
+
+pub mod fields;
+
+/// The longest blob that is read; a longer one is code 7, the port's own.
+pub const LONGEST: usize = 16_777_216;
+
+/// The words of one entry of each list.
+pub const WORDS: [usize; 10] = [9, 3, 1, 9, 12, 16, 11, 2, 12, 4];
+
+#[derive(Clone, Debug, Default, PartialEq, Eq)]
+pub struct Answer {
+    pub code: u32,
+    pub field: u32,
+    pub place: u32,
+    pub first: u64,
+    pub second: u64,
+    /// All words of lists 1 to 10; empty on a refusal.
+    pub lists: [Vec<u32>; 10],
+}
+
+impl Answer {
+    /// How many entries each list has.
+    pub fn counts(&self) -> [usize; 10] {
+        std::array::from_fn(|i| self.lists[i].len() / WORDS[i])
+    }
+}
+
+/// One line for the answer; on acceptance one more for each list.
+impl fmt::Display for Answer {
+    fn fmt(&self, f: &mut fmt::Formatter<'_>) -> fmt::Result {
+        write!(f, "{} {} {}", self.code, self.field, self.place)?;
+        write!(f, " {} {}", self.first, self.second)?;
+        for count in self.counts() {
+            write!(f, " {count}")?;
+        }
+        writeln!(f)?;
+        if self.code == 0 {
+            for (list, number) in self.lists.iter().zip(1..) {
+                write!(f, "list {number}")?;
+                for word in list {
+                    write!(f, " {word}")?;
+                }
+                writeln!(f)?;
+            }
+        }
+        Ok(())
+    }
+}
+
+/// The answer to a blob. Code 8 and 9, which are about lent memory, never come.
+pub fn answer(blob: &[u8]) -> Answer {
+    if blob.len() > LONGEST {
+        return refusal(7, 0, 0, 0, 0);
+    }
+    match CrimManifest::parse(blob) {
+        Ok(manifest) => acceptance(&manifest),
+        Err(error) => from_error(error),
+    }
+}
+
+fn refusal(code: u32, field: u32, place: u32, first: u64, second: u64) -> Answer {
+    Answer {
+        code,
+        field,
+        place,
+        first,
+        second,
+        lists: Default::default(),
+    }
+}
+
+fn from_error(error: WevtManifestError) -> Answer {
+    use WevtManifestError::*;
+    match error {
+        Truncated {
+            what,
+            offset,
+            need,
+            have,
+        } => refusal(1, fields::number(what), offset, need as u64, have as u64),
+        InvalidSignature {
+            offset,
+            expected,
+            found,
+        } => refusal(
+            2,
+            0,
+            offset,
+            u32::from_le_bytes(expected).into(),
+            u32::from_le_bytes(found).into(),
+        ),
+        SizeOutOfBounds { what, offset, size } => {
+            refusal(3, fields::number(what), offset, size.into(), 0)
+        }
+        CountOutOfBounds {
+            what,
+            offset,
+            count,
+        } => refusal(4, fields::number(what), offset, count.into(), 0),
+        OffsetOutOfBounds { what, offset, len } => {
+            refusal(5, fields::number(what), offset, len as u64, 0)
+        }
+        InvalidUtf16String { what, offset } => refusal(6, fields::number(what), offset, 0, 0),
+    }
+}
+
+fn acceptance(manifest: &CrimManifest) -> Answer {
+    let mut lists = Lists::default();
+    for (provider, number) in manifest.providers.iter().zip(0..) {
+        lists.provider(number, provider);
+    }
+    let header = &manifest.header;
+    Answer {
+        code: 0,
+        field: 0,
+        place: 0,
+        first: header.size.into(),
+        second: u64::from(header.major_version) + 65_536 * u64::from(header.minor_version),
+        lists: lists.0,
+    }
+}
+
+// The lists' numbers.
+const PROVIDERS: usize = 1;
+const DESCRIPTORS: usize = 2;
+const UNKNOWN2: usize = 3;
+const TABLES: usize = 4;
+const DEFINITIONS: usize = 5;
+const EVENTS: usize = 6;
+const MAPS: usize = 7;
+const MAP_ENTRIES: usize = 8;
+const TEMPLATES: usize = 9;
+const UNKNOWN_ELEMENTS: usize = 10;
+
+/// The tables' kinds.
+#[derive(Clone, Copy)]
+enum Kind {
+    Chan = 1,
+    Evnt,
+    Keyw,
+    Levl,
+    Maps,
+    Opco,
+    Task,
+    Ttbl,
+}
+
+/// A table without its entries. What a kind lacks is 0.
+#[derive(Default)]
+struct Table {
+    offset: u32,
+    size: u32,
+    extra: u32,
+    count: usize,
+    trailing: [u32; 2],
+}
+
+/// An entry of list 5. What a kind lacks is 0.
+struct Definition<'a> {
+    kind: Kind,
+    identifier: u64,
+    message: Option<u32>,
+    name_offset: u32,
+    name: &'a Option<String>,
+    unknown: u32,
+    mui: [u32; 4],
+}
+
+#[derive(Default)]
+struct Lists([Vec<u32>; 10]);
+
+impl Lists {
+    fn put<const N: usize>(&mut self, list: usize, entry: [u32; N]) {
+        assert_eq!(N, WORDS[list - 1]);
+        self.0[list - 1].extend(entry);
+    }
+
+    /// How many entries were put in a list so far.
+    fn written(&self, list: usize) -> u32 {
+        word(self.0[list - 1].len() / WORDS[list - 1])
+    }
+
+    /// All of one provider; its tables in the order of their kinds.
+    fn provider(&mut self, number: u32, provider: &Provider) {
+        let wevt = &provider.wevt;
+        let [a, b, c, d] = guid(provider.guid);
+        self.put(
+            PROVIDERS,
+            [
+                a,
+                b,
+                c,
+                d,
+                wevt.offset,
+                wevt.size,
+                message(wevt.message_identifier),
+                word(wevt.element_descriptors.len()),
+                word(wevt.unknown2.len()),
+            ],
+        );
+        for d in &wevt.element_descriptors {
+            let signature = u32::from_le_bytes(d.signature);
+            self.put(DESCRIPTORS, [d.element_offset, d.unknown, signature]);
+        }
+        for &value in &wevt.unknown2 {
+            self.put(UNKNOWN2, [value]);
+        }
+
+        let elements = &wevt.elements;
+        if let Some(table) = &elements.channels {
+            self.channels(number, table);
+        }
+        if let Some(table) = &elements.events {
+            self.events(number, table);
+        }
+        if let Some(table) = &elements.keywords {
+            self.keywords(number, table);
+        }
+        if let Some(table) = &elements.levels {
+            self.levels(number, table);
+        }
+        if let Some(table) = &elements.maps {
+            self.maps(number, table);
+        }
+        if let Some(table) = &elements.opcodes {
+            self.opcodes(number, table);
+        }
+        if let Some(table) = &elements.tasks {
+            self.tasks(number, table);
+        }
+        if let Some(table) = &elements.templates {
+            self.templates(number, table);
+        }
+        for element in &elements.unknown {
+            let signature = u32::from_le_bytes(element.signature);
+            self.put(
+                UNKNOWN_ELEMENTS,
+                [number, signature, element.offset, element.size],
+            );
+        }
+    }
+
+    /// A table's own entry, put before its entries, which `entries` will hold.
+    fn table(&mut self, provider: u32, kind: Kind, entries: usize, table: Table) {
+        let [trailing_start, trailing_length] = table.trailing;
+        self.put(
+            TABLES,
+            [
+                provider,
+                kind as u32,
+                table.offset,
+                table.size,
+                table.extra,
+                self.written(entries),
+                word(table.count),
+                trailing_start,
+                trailing_length,
+            ],
+        );
+    }
+
+    /// The table of a kind that has definitions.
+    fn defining(&mut self, provider: u32, kind: Kind, offset: u32, size: u32, count: usize) {
+        let table = Table {
+            offset,
+            size,
+            count,
+            ..Table::default()
+        };
+        self.table(provider, kind, DEFINITIONS, table);
+    }
+
+    fn definition(&mut self, d: Definition) {
+        let [name_start, name_units] = name(d.name_offset, d.name);
+        let [mui_1, mui_2, mui_3, mui_4] = d.mui;
+        self.put(
+            DEFINITIONS,
+            [
+                d.kind as u32,
+                d.identifier as u32,
+                (d.identifier >> 32) as u32,
+                message(d.message),
+                d.name_offset,
+                name_start,
+                name_units,
+                d.unknown,
+                mui_1,
+                mui_2,
+                mui_3,
+                mui_4,
+            ],
+        );
+    }
+
+    fn channels(&mut self, provider: u32, t: &ChannelDefinitions) {
+        self.defining(provider, Kind::Chan, t.offset, t.size, t.channels.len());
+        for c in &t.channels {
+            self.definition(Definition {
+                kind: Kind::Chan,
+                identifier: c.identifier.into(),
+                message: c.message_identifier,
+                name_offset: c.name_offset,
+                name: &c.name,
+                unknown: c.unknown,
+                mui: [0; 4],
+            });
+        }
+    }
+
+    fn keywords(&mut self, provider: u32, t: &KeywordDefinitions) {
+        self.defining(provider, Kind::Keyw, t.offset, t.size, t.keywords.len());
+        for k in &t.keywords {
+            self.definition(Definition {
+                kind: Kind::Keyw,
+                identifier: k.identifier,
+                message: k.message_identifier,
+                name_offset: k.data_offset,
+                name: &k.name,
+                unknown: 0,
+                mui: [0; 4],
+            });
+        }
+    }
+
+    fn levels(&mut self, provider: u32, t: &LevelDefinitions) {
+        self.defining(provider, Kind::Levl, t.offset, t.size, t.levels.len());
+        for l in &t.levels {
+            self.definition(Definition {
+                kind: Kind::Levl,
+                identifier: l.identifier.into(),
+                message: l.message_identifier,
+                name_offset: l.data_offset,
+                name: &l.name,
+                unknown: 0,
+                mui: [0; 4],
+            });
+        }
+    }
+
+    fn opcodes(&mut self, provider: u32, t: &OpcodeDefinitions) {
+        self.defining(provider, Kind::Opco, t.offset, t.size, t.opcodes.len());
+        for o in &t.opcodes {
+            self.definition(Definition {
+                kind: Kind::Opco,
+                identifier: o.identifier.into(),
+                message: o.message_identifier,
+                name_offset: o.data_offset,
+                name: &o.name,
+                unknown: 0,
+                mui: [0; 4],
+            });
+        }
+    }
+
+    fn tasks(&mut self, provider: u32, t: &TaskDefinitions) {
+        self.defining(provider, Kind::Task, t.offset, t.size, t.tasks.len());
+        for task in &t.tasks {
+            self.definition(Definition {
+                kind: Kind::Task,
+                identifier: task.identifier.into(),
+                message: task.message_identifier,
+                name_offset: task.data_offset,
+                name: &task.name,
+                unknown: 0,
+                mui: guid(task.mui_identifier),
+            });
+        }
+    }
+
+    fn events(&mut self, provider: u32, t: &EventDefinitions) {
+        let records_end = t.offset + 16 + 48 * word(t.events.len());
+        let table = Table {
+            offset: t.offset,
+            size: t.size,
+            extra: t.unknown,
+            count: t.events.len(),
+            trailing: [records_end, word(t.trailing.len())],
+        };
+        self.table(provider, Kind::Evnt, EVENTS, table);
+        for e in &t.events {
+            self.put(
+                EVENTS,
+                [
+                    e.identifier.into(),
+                    e.version.into(),
+                    e.channel.into(),
+                    e.level.into(),
+                    e.opcode.into(),
+                    e.task.into(),
+                    e.keywords as u32,
+                    (e.keywords >> 32) as u32,
+                    e.message_identifier,
+                    e.template_offset.unwrap_or(0),
+                    e.opcode_offset.unwrap_or(0),
+                    e.level_offset.unwrap_or(0),
+                    e.task_offset.unwrap_or(0),
+                    e.unknown_count,
+                    e.unknown_offset,
+                    e.flags,
+                ],
+            );
+        }
+    }
+
+    fn maps(&mut self, provider: u32, t: &MapsDefinitions) {
+        let table = Table {
+            offset: t.offset,
+            size: t.size,
+            count: t.maps.len(),
+            ..Table::default()
+        };
+        self.table(provider, Kind::Maps, MAPS, table);
+        for map in &t.maps {
+            self.map(map);
+        }
+    }
+
+    fn map(&mut self, map: &MapDefinition) {
+        match map {
+            MapDefinition::ValueMap(v) => {
+                let [name_start, name_units] = name(v.map_string_offset, &v.map_string);
+                let entries_end = v.offset + 16 + 8 * word(v.entries.len());
+                self.put(
+                    MAPS,
+                    [
+                        1,
+                        u32::from_le_bytes(*b"VMAP"),
+                        v.offset,
+                        v.size,
+                        v.map_string_offset,
+                        name_start,
+                        name_units,
+                        self.written(MAP_ENTRIES),
+                        word(v.entries.len()),
+                        entries_end,
+                        word(v.trailing.len()),
+                    ],
+                );
+                for entry in &v.entries {
+                    self.put(
+                        MAP_ENTRIES,
+                        [entry.identifier, message(entry.message_identifier)],
+                    );
+                }
+            }
+            MapDefinition::Bitmap(b) => self.plain_map(2, *b"BMAP", b.offset, b.data),
+            MapDefinition::Unknown {
+                signature,
+                offset,
+                data,
+            } => self.plain_map(3, *signature, *offset, data),
+        }
+    }
+
+    /// A map that isn't read further: its data starts at its own place.
+    fn plain_map(&mut self, sort: u32, signature: [u8; 4], offset: u32, data: &[u8]) {
+        let signature = u32::from_le_bytes(signature);
+        let length = word(data.len());
+        self.put(
+            MAPS,
+            [sort, signature, offset, 0, 0, 0, 0, 0, 0, offset, length],
+        );
+    }
+
+    fn templates(&mut self, provider: u32, t: &TemplateTable) {
+        let table = Table {
+            offset: t.offset,
+            size: t.size,
+            count: t.templates.len(),
+            ..Table::default()
+        };
+        self.table(provider, Kind::Ttbl, TEMPLATES, table);
+        for template in &t.templates {
+            let [a, b, c, d] = guid(template.guid);
+            self.put(
+                TEMPLATES,
+                [
+                    template.offset,
+                    template.size,
+                    template.item_descriptor_count,
+                    template.item_name_count,
+                    template.template_items_offset,
+                    template.event_type,
+                    a,
+                    b,
+                    c,
+                    d,
+                    template.offset + 40,
+                    word(template.binxml.len()),
+                ],
+            );
+        }
+    }
+}
+
+/// A length or count as a word. None can be too large: `LONGEST` bounds the
+/// lengths, and lists of four billion entries don't fit in memory.
+fn word(n: usize) -> u32 {
+    u32::try_from(n).expect("a length or count within 32 bits")
+}
+
+/// The raw word of a message identifier, which the original takes apart.
+fn message(identifier: Option<u32>) -> u32 {
+    identifier.unwrap_or(u32::MAX)
+}
+
+/// Start and units of a name, 0 and 0 for an absent one.
+fn name(offset: u32, name: &Option<String>) -> [u32; 2] {
+    match name {
+        Some(text) => [offset + 4, word(text.encode_utf16().count())],
+        None => [0, 0],
+    }
+}
+
+fn guid(guid: Guid) -> [u32; 4] {
+    let bytes = guid.bytes();
+    std::array::from_fn(|i| {
+        u32::from_le_bytes(bytes[4 * i..4 * i + 4].try_into().expect("four bytes"))
+    })
+}

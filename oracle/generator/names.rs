@@ -1,0 +1,125 @@
+//! Names: a size that counts itself, then 16-bit units.
+
+use crate::draft::Draft;
+use crate::rng::Rng;
+
+/// Writes a good name and gives its offset.
+pub fn write(draft: &mut Draft, rng: &mut Rng) -> u32 {
+    let mut units = text(rng);
+    match rng.below(8) {
+        // No zero unit at the end, which an empty name, of size 4, lacks too.
+        0 => {}
+        1 => units.clear(),
+        // What follows the zero unit is not read, not even a lone surrogate.
+        2 => units.extend([0, 0xd800, 0x41]),
+        // A second name within the first; its size's upper half ends the first.
+        3 => return nested(draft, rng, units),
+        _ => units.push(0),
+    }
+    let at = sized(draft, &units);
+    draft.names.push(at);
+    at
+}
+
+/// Puts a name's offset (absent, or of any name so far) in a word.
+pub fn refer(draft: &mut Draft, rng: &mut Rng, place: usize) {
+    let name = if draft.names.is_empty() || rng.chance(25) {
+        0
+    } else {
+        rng.pick(&draft.names)
+    };
+    draft.set(place, name);
+    draft.steering.push(place);
+    draft.name_words.push(place);
+}
+
+/// Makes the word at a place refer to a name that is refused.
+pub fn refer_badly(draft: &mut Draft, rng: &mut Rng, place: usize) {
+    let name = match rng.below(6) {
+        // The offset past the blob.
+        0 => draft.here().saturating_add(past(rng)),
+        // The size cut short by the blob's end.
+        1 => draft.here() - rng.below(4) as u32,
+        // A size that doesn't count itself.
+        2 => {
+            let at = write(draft, rng);
+            draft.set(at as usize, rng.below(4) as u32);
+            at
+        }
+        // A size past the blob: the name is the last that was written.
+        3 => {
+            let units = text(rng);
+            let at = sized(draft, &units);
+            let size = draft.get(at as usize);
+            draft.set(at as usize, size.saturating_add(past(rng)));
+            at
+        }
+        4 => odd(draft, rng),
+        _ => lone_surrogate(draft, rng),
+    };
+    draft.set(place, name);
+}
+
+/// By how much something lies past an end: mostly by little.
+pub fn past(rng: &mut Rng) -> u32 {
+    rng.pick(&[1, 1, 1, 2, 3, 4, 100, 0x7fff_ffff, u32::MAX])
+}
+
+fn text(rng: &mut Rng) -> Vec<u16> {
+    let mut units = Vec::new();
+    for _ in 0..rng.below(9) {
+        match rng.below(6) {
+            0 => {
+                let (high, low) = (rng.below(0x400), rng.below(0x400));
+                units.extend([0xd800 + high as u16, 0xdc00 + low as u16]);
+            }
+            1 => units.push(rng.pick(&[1, 0x7f, 0x80, 0x7ff, 0x800, 0xd7ff, 0xe000, 0xffff])),
+            _ => units.push(rng.between(0x20, 0x7e) as u16),
+        }
+    }
+    units
+}
+
+fn sized(draft: &mut Draft, units: &[u16]) -> u32 {
+    let at = draft.here();
+    draft.steer(4 + 2 * units.len() as u32);
+    for unit in units {
+        draft.put(&unit.to_le_bytes());
+    }
+    at
+}
+
+fn nested(draft: &mut Draft, rng: &mut Rng, mut outer: Vec<u16>) -> u32 {
+    let inner_at = draft.here() + 4 + 2 * outer.len() as u32;
+    let inner = text(rng);
+    outer.push(4 + 2 * inner.len() as u16);
+    outer.push(0);
+    outer.extend(inner);
+    let at = sized(draft, &outer);
+    draft.steering.push(inner_at as usize);
+    draft.names.extend([at, inner_at]);
+    at
+}
+
+/// A name with half a unit at its end.
+fn odd(draft: &mut Draft, rng: &mut Rng) -> u32 {
+    let mut units = text(rng);
+    if rng.chance(50) {
+        units.push(0);
+    }
+    let at = sized(draft, &units);
+    draft.bytes.push(rng.byte());
+    draft.set(at as usize, 5 + 2 * units.len() as u32);
+    at
+}
+
+fn lone_surrogate(draft: &mut Draft, rng: &mut Rng) -> u32 {
+    let mut units = text(rng);
+    match rng.below(4) {
+        0 => units.push(0xd800),
+        1 => units.extend([0xdbff, 0]),
+        2 => units.extend([0xd9ab, 0x41, 0]),
+        _ => units.extend([0xdc00, 0x41]),
+    }
+    sized(draft, &units)
+}
