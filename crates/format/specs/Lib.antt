@@ -14,3 +14,4 @@ pub mod Answer
 pub mod Cases
 pub mod Rests
 pub mod Rested
+pub mod Says

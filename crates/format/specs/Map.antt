@@ -37,7 +37,7 @@ entryAt at = number 4 at >>= λ identifier. number 4 (at + 4) >>= λ message. go
 
 -- "its bytes are as many as its size, cut at the region end; under 16 of them is 1"
 abbrev pub few : Region → ℕ → ℕ → ℕ → Refusal
-few region at size n = record { code = 1; field = VMAP-header; place = at; first = 16; second = min size (end region n - at) }
+few region at size n = record { code = 1; field = VMAP-header; place = at; first = 16; second = min size (end n region - at) }
 
 -- "A VMAP needs 8 bytes (1); its bytes ..; a size past them is 3; entries past the size are 3; then the name. Data is what remains."
 unfoldable pub valueMapAt : Region → ℕ → Reading Map

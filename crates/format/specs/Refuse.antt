@@ -1,8 +1,12 @@
 -- The answer, codes 1 to 6: what a refusal says, and the two tests that most of the format asks for.
--- "Code | Given when | Place, numbers" (the answer). The last argument of each is the blob's length.
+-- "Code | Given when | Place, numbers" (the answer). The last argument of 1 to 6 is the blob's length.
 use Prim.Native.Nat.{ℕ, _+_, _-_}
 use Rattle.blob.specs.declared.Refusal.{Refusal}
 use Rattle.blob.specs.Reading.{Reading, room}
+
+-- "0 | accepted | 0; .. (other calls 0, 0)"
+abbrev pub fine : Refusal
+fine = record { code = 0; field = 0; place = 0; first = 0; second = 0 }
 
 -- "1 | Truncated | offset; need, have (0 when the offset is past the end)"
 abbrev pub truncated : ℕ → ℕ → ℕ → ℕ → Refusal

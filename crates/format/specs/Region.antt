@@ -14,9 +14,9 @@ pub data Region : Type 0 where
   until : ℕ → Region
 
 -- where it ends, in a blob of n bytes
-abbrev pub end : Region → ℕ → ℕ
-end blob-end n = n
-end (until e) n = e
+abbrev pub end : ℕ → Region → ℕ
+end n blob-end = n
+end n (until e) = e
 
 -- go on where a place is not past the region's end
 unfoldable pub inside : {A : Type 0} → Region → ℕ → (ℕ → Refusal) → Reading A → Reading A
@@ -31,7 +31,7 @@ bounded f at size least = demand (leb least size) (size-out f at size) (room (at
 unfoldable pub regionAt : ℕ → ℕ → ℕ → ℕ → Reading Region
 regionAt f at size least = choose (eqb size 0) (got blob-end) (bounded f at size least >>= λ e. got (until e))
 
--- what the code answers for a region, in a blob of n bytes
-abbrev pub endRead : ℕ → Outcome Region → EndRead
-endRead n (done r) = read.End (end r n)
-endRead n (refused r) = read.Refused r
+-- what the code answers for a value that tells an end
+abbrev pub endRead : {A : Type 0} → (A → ℕ) → Outcome A → EndRead
+endRead told (done a) = read.End (told a)
+endRead told (refused r) = read.Refused r

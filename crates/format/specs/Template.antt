@@ -7,7 +7,7 @@ use lib.Dec.{leb, ltb, eqb}
 use Rattle.blob.specs.declared.Refusal.{Refusal}
 use Rattle.blob.specs.Reading.{Reading, got, stop, choose, demand, _>>=_, number, many}
 use Rattle.format.specs.Field.{TEMP-header, TEMP-size, TEMP-item-name-count-expected-0, TEMP-template-items-offset, TEMP-template-items-offset-relative, table-size}
-use Rattle.format.specs.Refuse.{truncated, wrong-signature, size-out, count-out, offset-out}
+use Rattle.format.specs.Refuse.{fine, truncated, wrong-signature, size-out, count-out, offset-out}
 use Rattle.format.specs.Region.{Region, end, inside, regionAt}
 use Rattle.format.specs.Table.{TTBL, Header, header-length}
 use Rattle.format.specs.Definition.{guidAt}
@@ -37,16 +37,21 @@ itemsOf temp size offset =
     (items.Past (template-place (offset .0 - temp .0)))))
 
 -- "An items offset before the TEMP is 5 with the blob offset and blob length; one past its end is 5 with the offset relative to the
--- TEMP and the TEMP's size." The TEMP's size, and what was found of its items
+-- TEMP and the TEMP's size." What each case says, in a TEMP of a size, in a blob of n bytes
+abbrev pub itemsSays : (size n : ℕ) → Items → Refusal
+itemsSays size n (items.At t) = fine
+itemsSays size n (items.Before b) = offset-out TEMP-template-items-offset (b .0) n
+itemsSays size n (items.Past t) = offset-out TEMP-template-items-offset-relative (t .0) size
+
 unfoldable pub itemsAt : ℕ → Items → Reading TemplatePlace
 itemsAt size (items.At t) = got t
-itemsAt size (items.Before b) = stop (offset-out TEMP-template-items-offset (b .0))
-itemsAt size (items.Past t) = stop (λ n. offset-out TEMP-template-items-offset-relative (t .0) size)
+itemsAt size (items.Before b) = stop (λ n. itemsSays size n (items.Before b))
+itemsAt size (items.Past t) = stop (λ n. itemsSays size n (items.Past t))
 
 -- "BinXML runs from TEMP byte 40 to the items; items below 40 give length 0, start still TEMP + 40."
 unfoldable pub templateAt : Region → ℕ → Reading Template
 templateAt region at =
-    inside region (at + 40) (λ n. truncated TEMP-header at 40 (end region n)) (
+    inside region (at + 40) (λ n. truncated TEMP-header at 40 (end n region)) (
     number 4 at >>= λ found.
     demand (eqb found TEMP) (wrong-signature at TEMP found) (
     number 4 (at + 4) >>= λ size.

@@ -1,0 +1,61 @@
+-- For each enum that a function answers, the code, field, place and two numbers that each of its cases stands for; and that they are
+-- those of what the definition finds. (`itemsSays` of Template is the one for `Items`.) "Where an answer is an enum, a definition gives this paper's number and values for each of the
+-- enum's cases." (forms)
+use Prim.Native.Nat.{ℕ, zero, suc}
+use mathlib.Core.Path.{_≡_, refl}
+use Rattle.blob.specs.declared.Refusal.{Refusal}
+use Rattle.blob.specs.declared.Verdict.{Verdict}
+use Rattle.blob.specs.declared.Verdict.the-variants as verdicts
+use Rattle.blob.specs.Reading.{Outcome, done, refused, verdict}
+use Rattle.format.specs.Refuse.{fine}
+use Rattle.format.specs.Name.{nameRead}
+use Rattle.format.specs.Region.{endRead}
+use Rattle.format.specs.declared.Name.{Name}
+use Rattle.format.specs.declared.NameRead.{NameRead}
+use Rattle.format.specs.declared.NameRead.the-variants as names
+use Rattle.format.specs.declared.EndRead.{EndRead}
+use Rattle.format.specs.declared.EndRead.the-variants as ends
+use Rattle.format.specs.declared.TemplateFound.{TemplateFound}
+use Rattle.format.specs.declared.TemplateFound.the-variants as templates
+use Rattle.format.specs.declared.GuidsFound.{GuidsFound}
+use Rattle.format.specs.declared.GuidsFound.the-variants as guids
+
+abbrev pub said : {A : Type 0} → Outcome A → Refusal
+said (done a) = fine
+said (refused r) = r
+
+abbrev pub verdictSays : Verdict → Refusal
+verdictSays verdicts.Fine = fine
+verdictSays (verdicts.Refused r) = r
+
+abbrev pub nameSays : NameRead → Refusal
+nameSays names.Absent = fine
+nameSays (names.Present n) = fine
+nameSays (names.Refused r) = r
+
+abbrev pub endSays : EndRead → Refusal
+endSays (ends.End e) = fine
+endSays (ends.Refused r) = r
+
+abbrev pub templateSays : TemplateFound → Refusal
+templateSays (templates.Number i) = fine
+templateSays templates.Nothing = fine
+templateSays (templates.Refused r) = r
+
+abbrev pub guidsSays : GuidsFound → Refusal
+guidsSays (guids.Given n) = fine
+guidsSays (guids.Refused r) = r
+
+pub verdict-says : {A : Type 0} (o : Outcome A) → verdictSays (verdict o) ≡ said o
+verdict-says (done a) = refl
+verdict-says (refused r) = refl
+
+pub name-says : (offset : ℕ) (o : Outcome Name) → nameSays (nameRead offset o) ≡ said o
+name-says zero (done n) = refl
+name-says (suc offset) (done n) = refl
+name-says zero (refused r) = refl
+name-says (suc offset) (refused r) = refl
+
+pub end-says : {A : Type 0} (told : A → ℕ) (o : Outcome A) → endSays (endRead told o) ≡ said o
+end-says told (done a) = refl
+end-says told (refused r) = refl
