@@ -14,13 +14,7 @@ use Rattle.blob.specs.Laid.{flat}
 use Rattle.blob.specs.Places.{Each, span, rows}
 use Rattle.blob.specs.declared.Refusal.{Refusal}
 use Rattle.blob.specs.Reading.{Reading, got, stop, room, byte, Outcome, done, refused, choose, demand, run, places, _>>=_, number, many, each, then}
-use Rattle.blob.specs.Laws.{run-bind, finds-number}
-
-never : {A : Type 0} (r : Refusal) (a : A) → _≡_ {A = Outcome A} (refused r) (done a) → ⊥
-never r a h = let z : _≡_ {A = ℕ} 0 1 = cc in omega arith
-
-same : {A : Type 0} (a b : A) → _≡_ {A = Outcome A} (done a) (done b) → a ≡ b
-same a b h = cc
+use Rattle.blob.specs.Laws.{never, same, run-bind, finds-number}
 
 -- where the reading is accepted, its value and the places that it asks for are as P says
 pub record Finds {A : Type 0} (r : Reading A) (s : List ℕ) (P : A → List ℕ → Type 0) : Type 0 where

@@ -13,6 +13,23 @@ use Rattle.blob.specs.declared.Refusal.{Refusal}
 use Rattle.blob.specs.declared.Verdict.the-variants as verdicts
 use Rattle.blob.specs.Reading.{Reading, got, stop, room, byte, Outcome, done, refused, choose, run, _>>=_, number, many, then, verdict, values}
 
+-- a refusal is never a value, and two values are equal where their outcomes are
+pub never : {A : Type 0} (r : Refusal) (a : A) → _≡_ {A = Outcome A} (refused r) (done a) → ⊥
+never r a h = let z : _≡_ {A = ℕ} 0 1 = cc in omega arith
+
+pub same : {A : Type 0} (a b : A) → _≡_ {A = Outcome A} (done a) (done b) → a ≡ b
+same a b h = cc
+
+-- what an accepted outcome was made of
+pub then-done : {A B : Type 0} (o : Outcome A) (f : A → Outcome B) (b : B) → then o f ≡ done b → (a : A) × (o ≡ done a) × (f a ≡ done b)
+unfolding then
+then-done (done a) f b e = (a, refl, e)
+then-done (refused r) f b e = absurd (never _ _ e)
+
+pub choose-done : {A : Type 0} (t : Bool) (o : Outcome A) (r : Refusal) (a : A) → choose t o (refused r) ≡ done a → (t ≡ true) × (o ≡ done a)
+choose-done true o r a e = (refl, e)
+choose-done false o r a e = absurd (never _ _ e)
+
 pub run-bind : {A B : Type 0} (p : Reading A) (f : A → Reading B) (s : List ℕ) → run (p >>= f) s ≡ then (run p s) (λ a. run (f a) s)
 unfolding run then _>>=_
 run-bind (got a) f s = refl

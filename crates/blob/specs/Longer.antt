@@ -10,14 +10,12 @@ use lib.Dec.{leb}
 use borrow.Author.Tests.{le-leb, leb-true}
 use Rattle.blob.specs.Places.{Each}
 use Rattle.blob.specs.declared.Refusal.{Refusal}
+use Rattle.blob.specs.Laws.{never}
 use Rattle.blob.specs.Reading.{Reading, got, stop, room, byte, Outcome, done, refused, choose, run, places}
 
 -- two blobs agree on each of some places
 abbrev pub Agree : List ℕ → List ℕ → List ℕ → Type 0
 Agree s t ps = Each (λ p. getD t p 0 ≡ getD s p 0) ps
-
-never : {A : Type 0} (r : Refusal) (a : A) → _≡_ {A = Outcome A} (refused r) (done a) → ⊥
-never r a h = let z : _≡_ {A = ℕ} 0 1 = cc in omega arith
 
 pub longer : {A : Type 0} (r : Reading A) (s t : List ℕ) (a : A) → length s ≤ length t → Agree s t (places r s) → run r s ≡ done a → run r t ≡ done a
 unfolding run places

@@ -43,9 +43,9 @@ abbrev one-each : Counts
 one-each =
     record { providers = 1; descriptors = 1; unknown2 = 1; tables = 1; definitions = 1; events = 1; maps = 1; entries = 1; templates = 1; unknown = 1 }
 
-record Row : Type 0 where
-  answer : Answer
-  lists : List (List ℕ)
+pub record Row : Type 0 where
+  pub answer : Answer
+  pub lists : List (List ℕ)
 
 abbrev none : Counts
 none = counted []
@@ -54,19 +54,21 @@ none = counted []
 abbrev refusal : (code field place first second : ℕ) → Row
 refusal c f p a b = record { answer = record { code = c; field = f; place = p; first = a; second = b; counts = none }; lists = [] }
 
-abbrev listed : Outcome Crim → List (List ℕ)
+abbrev pub listed : Outcome Crim → List (List ℕ)
 listed (done c) = map (flat (λ e. e)) (lists (c .providers))
 listed (refused r) = []
+
+abbrev pub rowOf : Outcome Crim → Row
+rowOf o = record { answer = answer o; lists = listed o }
 
 -- what the definition finds of some bytes
 found : List ℕ → Row
 found bytes =
-    let o = reading bytes (replicate (areas (ten one-each) widths) 0) one-each in
-    record { answer = answer o; lists = listed o }
+    rowOf (reading bytes (replicate (areas (ten one-each) widths) 0) one-each)
 
-record Case : Type 0 where
-  bytes : List ℕ
-  row : Row
+pub record Case : Type 0 where
+  pub bytes : List ℕ
+  pub row : Row
 
 table : List Case
 table =

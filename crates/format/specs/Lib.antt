@@ -15,3 +15,7 @@ pub mod Cases
 pub mod Rests
 pub mod Rested
 pub mod Says
+pub mod Block
+pub mod Lookup
+pub mod Handle
+pub mod Determined

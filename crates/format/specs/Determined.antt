@@ -1,0 +1,36 @@
+-- Nothing is left open: the answer and the lent words are functions of the blob, the words and the capacities, so any two answers that
+-- the contract allows are equal; each count is the length of its list, and a refusal's are zero.
+use Prim.Native.Nat.{ℕ}
+use mathlib.Core.Path.{_≡_, refl, sym, _∙_}
+use mathlib.Core.List.{List, [], _∷_, map}
+use lib.ListN.{length, replicate}
+use Rattle.blob.specs.declared.Refusal.{Refusal}
+use Rattle.blob.specs.Reading.{Outcome, done, refused}
+use Rattle.format.specs.Crim.{Crim}
+use Rattle.format.specs.Lists.{lists}
+use Rattle.format.specs.Answer.{ten, reading, answer, held}
+use Rattle.format.specs.declared.Counts.{Counts}
+use Rattle.format.specs.declared.Answer.{Answer}
+
+-- what the contract of a reading allows: this answer, and these words after it
+pub record Allowed (bytes words : List ℕ) (capacities : Counts) (a : Answer) (after : List ℕ) : Type 0 where
+  pub answered : a ≡ answer (reading bytes words capacities)
+  pub kept : after ≡ held words capacities (reading bytes words capacities)
+
+pub determined : (bytes words : List ℕ) (capacities : Counts) (a b : Answer) (after after' : List ℕ)
+    → Allowed bytes words capacities a after → Allowed bytes words capacities b after' → (a ≡ b) × (after ≡ after')
+determined bytes words capacities a b after after' h g = (h .answered ∙ sym (g .answered), h .kept ∙ sym (g .kept))
+
+-- the ten counts of an accepted blob are the lengths of its ten lists
+pub counts-are-lengths : (c : Crim) → ten (answer (done c) .counts) ≡ map (λ l. length l) (lists (c .providers))
+unfolding answer lists
+counts-are-lengths c = refl
+
+-- a refusal's are zero, and it keeps the lent words
+pub refusal-counts-zero : (r : Refusal) → ten (answer (refused r) .counts) ≡ replicate 10 0
+unfolding answer
+refusal-counts-zero r = refl
+
+pub refusal-keeps : (words : List ℕ) (capacities : Counts) (r : Refusal) → held words capacities (refused r) ≡ words
+unfolding held
+refusal-keeps words capacities r = refl

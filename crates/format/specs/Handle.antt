@@ -1,0 +1,11 @@
+-- The part that a reading handle shows. "A reading handle keeps the blob beside its size, for the few calls that show a template's
+-- BinXML: that part, or the empty part if size runs past the bytes or start plus length past size." (finding a template)
+use Prim.Native.Nat.{ℕ, _+_}
+use mathlib.Core.Bool.{_&&_}
+use mathlib.Core.List.{List, []}
+use lib.ListN.{length, take, drop}
+use lib.Dec.{leb}
+use Rattle.blob.specs.Reading.{choose}
+
+unfoldable pub shown : (bytes : List ℕ) → (size start count : ℕ) → List ℕ
+shown bytes size start count = choose (leb size (length bytes) && leb (start + count) size) (take count (drop start bytes)) []

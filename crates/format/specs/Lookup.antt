@@ -1,0 +1,142 @@
+-- Finding a template. "A lookup takes the lent words, capacities and counts of a reading. Order: 8 as above, 10 for a count over its
+-- capacity or a fault named below, then 9." (finding a template)
+use Prim.Native.Nat.{ℕ, zero, suc, _+_, _-_, _*_, _/_}
+use mathlib.Core.Bool.{Bool, true, false, not, _&&_}
+use mathlib.Core.List.{List, [], _∷_, map}
+use lib.ListN.{length, getD, take, drop}
+use lib.Dec.{leb, ltb, eqb}
+use Rattle.blob.specs.declared.Refusal.{Refusal}
+use Rattle.blob.specs.Reading.{Outcome, done, refused, choose}
+use Rattle.blob.specs.Laid.{laid, flat}
+use Rattle.format.specs.Table.{EVNT, TTBL}
+use Rattle.format.specs.Lists.{Entry, guidWords}
+use Rattle.format.specs.Answer.{widths, ten, own, too-small, areas, lent-enough}
+use Rattle.format.specs.declared.Counts.{Counts}
+use Rattle.format.specs.declared.Key.{Key}
+use Rattle.format.specs.declared.TemplateFound.{TemplateFound}
+use Rattle.format.specs.declared.TemplateFound.the-variants as template
+use Rattle.format.specs.declared.GuidsFound.{GuidsFound}
+use Rattle.format.specs.declared.GuidsFound.the-variants as guids
+
+-- n entries of so many words each, from a place of the words on
+unfoldable pub entries : ℕ → ℕ → ℕ → List ℕ → List Entry
+entries width zero at words = []
+entries width (suc n) at words = take width (drop at words) ∷ entries width n (at + width) words
+
+-- the entries of a list, by its number: its area starts where those before it end
+abbrev pub listed : List ℕ → Counts → Counts → ℕ → List Entry
+listed words capacities counts l =
+    entries (getD widths (l - 1) 0) (getD (ten counts) (l - 1) 0) (areas (take (l - 1) (ten capacities)) widths) words
+
+-- a word of an entry
+abbrev pub word : ℕ → Entry → ℕ
+word i e = getD e i 0
+
+-- no count is over its capacity
+unfoldable pub counts-fit : List ℕ → List ℕ → Bool
+counts-fit [] cs = true
+counts-fit (n ∷ ns) [] = false
+counts-fit (n ∷ ns) (c ∷ cs) = leb n c && counts-fit ns cs
+
+-- the entries that a test picks, in their order
+unfoldable pub select : (Entry → Bool) → List Entry → List Entry
+select p [] = []
+select p (e ∷ es) = choose (p e) (e ∷ select p es) (select p es)
+
+-- the number of the first entry that a test picks, counted from n; none or one
+unfoldable pub position : (Entry → Bool) → ℕ → List Entry → List ℕ
+position p n [] = []
+position p n (e ∷ es) = choose (p e) (n ∷ []) (position p (suc n) es)
+
+-- "By offset: given a first entry and a count, the number in list 9 of the lowest template entry in that range whose offset is equal,
+-- or none exactly if none is. A range past the list is 10."
+abbrev pub numbered : List ℕ → TemplateFound
+numbered [] = template.Nothing
+numbered (n ∷ ns) = template.Number n
+
+unfoldable pub byOffset : List ℕ → Counts → Counts → (first count offset : ℕ) → TemplateFound
+byOffset words capacities counts first count offset =
+    choose (lent-enough capacities words)
+    (choose (counts-fit (ten counts) (ten capacities) && leb (first + count) (counts .templates))
+    (numbered (position (λ t. eqb (word 0 t) offset) first (take count (drop first (listed words capacities counts 9)))))
+    (template.Refused (own 10)))
+    (template.Refused (own 8))
+
+-- two runs of words are the same
+unfoldable pub alike : List ℕ → List ℕ → Bool
+alike [] [] = true
+alike [] (y ∷ ys) = false
+alike (x ∷ xs) [] = false
+alike (x ∷ xs) (y ∷ ys) = eqb x y && alike xs ys
+
+-- one of some GUIDs
+unfoldable pub among : Entry → List Entry → Bool
+among g [] = false
+among g (h ∷ hs) = choose (alike g h) true (among g hs)
+
+-- "each once, in first-seen order"
+unfoldable pub once : List Entry → List Entry → List Entry
+once seen [] = []
+once seen (g ∷ gs) = choose (among g seen) (once seen gs) (g ∷ once (g ∷ seen) gs)
+
+-- the list that a kind's tables have their entries in
+abbrev pub listOf : ℕ → ℕ
+listOf k = getD (0 ∷ 5 ∷ 6 ∷ 5 ∷ 5 ∷ 7 ∷ 5 ∷ 5 ∷ 9 ∷ []) k 0
+
+-- "10 if any table entry names a missing provider or a range past its list, or its kind isn't 1 to 8". A table entry's words: provider
+-- number, kind, .., first entry and count at 5 and 6
+abbrev pub tableFits : Counts → Entry → Bool
+tableFits counts t =
+    ltb (word 0 t) (counts .providers) && (leb 1 (word 1 t) && (leb (word 1 t) 8
+    && leb (word 5 t + word 6 t) (getD (ten counts) (listOf (word 1 t) - 1) 0)))
+
+unfoldable pub tablesFit : Counts → List Entry → Bool
+tablesFit counts [] = true
+tablesFit counts (t ∷ ts) = tableFits counts t && tablesFit counts ts
+
+-- "A provider's first table entry of a kind is used.": the entries of its range, in their list
+abbrev pub owned : List Entry → ℕ → ℕ → List Entry → List Entry
+owned tables provider kind es =
+    flat (λ t. take (word 6 t) (drop (word 5 t) es)) (take 1 (select (λ t. eqb (word 0 t) provider && eqb (word 1 t) kind) tables))
+
+-- "the seven fields `event_id` to `keywords`", as an event's first eight words
+abbrev pub keyWords : Key → List ℕ
+keyWords k = k .identifier ∷ k .version ∷ k .channel ∷ k .level ∷ k .opcode ∷ k .task ∷ k .low ∷ k .high ∷ []
+
+-- an event with that key and a template offset (word 9)
+abbrev pub asked : Key → Entry → Bool
+asked k e = alike (take 8 e) (keyWords k) && not (eqb (word 9 e) 0)
+
+-- the GUID (words 6 to 9) of the lowest of some templates at an offset; none or one
+abbrev pub guidAtOffset : List Entry → ℕ → List Entry
+guidAtOffset ts offset = map (λ t. take 4 (drop 6 t)) (take 1 (select (λ t. eqb (word 0 t) offset) ts))
+
+-- "It takes the first provider with that GUID .. Its events with that key, a template offset and a found template give template GUIDs"
+unfoldable pub guidsOf : List ℕ → Counts → Counts → Key → List Entry
+guidsOf words capacities counts key =
+    let tables = listed words capacities counts 4 in
+    flat (λ p.
+      let ts = owned tables p TTBL (listed words capacities counts 9) in
+      once [] (flat (λ e. guidAtOffset ts (word 9 e)) (select (asked key) (owned tables p EVNT (listed words capacities counts 6)))))
+    (position (λ p. alike (take 4 p) (guidWords (key .guid))) 0 (listed words capacities counts 1))
+
+-- "By key .. into a lent list of 4-word entries (9, list number 11, if short)"; "A list lent singly has as capacity its length over its
+-- entry's words, rounded down." (the answer)
+unfoldable pub byKey : List ℕ → Counts → Counts → Key → List ℕ → Outcome (List Entry)
+byKey words capacities counts key lent =
+    let capacity = length lent / 4 in
+    let found = guidsOf words capacities counts key in
+    choose (lent-enough capacities words && leb capacity 65536)
+    (choose (counts-fit (ten counts) (ten capacities) && tablesFit counts (listed words capacities counts 4))
+    (choose (leb (length found) capacity) (done found) (refused (too-small 11 capacity)))
+    (refused (own 10)))
+    (refused (own 8))
+
+-- what the code answers, and what the lent list then holds
+abbrev pub guidsFound : Outcome (List Entry) → GuidsFound
+guidsFound (done gs) = guids.Given (length gs)
+guidsFound (refused r) = guids.Refused r
+
+abbrev pub guidsHeld : List ℕ → Outcome (List Entry) → List ℕ
+guidsHeld lent (done gs) = laid lent 0 (flat (λ g. g) gs)
+guidsHeld lent (refused r) = lent
