@@ -52,7 +52,6 @@ unfoldable pub many : {S A : Type 0} → (S → Reading A) → (A → S → S) �
 many p next zero at = got []
 many p next (suc n) at = p at >>= λ a. many p next n (next a at) >>= λ vs. got (a ∷ vs)
 
-
 -- one value for each of some others, in their order
 unfoldable pub each : {A B : Type 0} → (A → Reading B) → List A → Reading (List B)
 each f [] = got []

@@ -66,9 +66,16 @@ reading bytes words capacities =
 abbrev pub counted : List (List Entry) → Counts
 counted ls =
     record {
-      providers = length (getD ls 0 []); descriptors = length (getD ls 1 []); unknown2 = length (getD ls 2 []);
-      tables = length (getD ls 3 []); definitions = length (getD ls 4 []); events = length (getD ls 5 []);
-      maps = length (getD ls 6 []); entries = length (getD ls 7 []); templates = length (getD ls 8 []); unknown = length (getD ls 9 [])
+      providers = length (getD ls 0 []);
+      descriptors = length (getD ls 1 []);
+      unknown2 = length (getD ls 2 []);
+      tables = length (getD ls 3 []);
+      definitions = length (getD ls 4 []);
+      events = length (getD ls 5 []);
+      maps = length (getD ls 6 []);
+      entries = length (getD ls 7 []);
+      templates = length (getD ls 8 []);
+      unknown = length (getD ls 9 []);
     }
 
 -- "One code, a field code, a place, two 64-bit numbers, and ten entry counts (zero on a refusal)"; "0 | accepted | 0; CRIM.size,
@@ -76,8 +83,13 @@ counted ls =
 unfoldable pub answer : Outcome Crim → Answer
 answer (done c) =
     record {
-      code = 0; field = 0; place = 0; first = c .header .size; second = c .header .major + 65536 * c .header .minor;
-      counts = counted (lists (c .providers)) }
+      code = 0;
+      field = 0;
+      place = 0;
+      first = c .header .size;
+      second = c .header .major + 65536 * c .header .minor;
+      counts = counted (lists (c .providers));
+    }
 answer (refused r) =
     record { code = r .code; field = r .field; place = r .place; first = r .first; second = r .second; counts = counted [] }
 

@@ -18,11 +18,11 @@ use Rattle.blob.specs.Reading.{Reading, Outcome, done, refused, choose, demand,
 use Rattle.blob.specs.Laws.{run-number, then-done, choose-done, same}
 use Rattle.blob.specs.Longer.{Agree, longer}
 use Rattle.blob.specs.Asks.{Finds, finds-got, finds-room, finds-demand, finds-next, Asked, inside-append, inside-span, span-join, span-append}
-use Rattle.format.specs.Crim.{CRIM, Header, Crim, header, providersOf, crim}
+use Rattle.format.specs.Crim.{CRIM, CrimHeader, Crim, header, providersOf, crim}
 use Rattle.format.specs.Lists.{Entry, lists}
 use Rattle.format.specs.Answer.{ten, widths, moderate, areas, lent-enough, with-room, reading}
 use Rattle.format.specs.Rests.{providersBytes, restsOn}
-use Rattle.format.specs.Rested.{providers-asked}
+use Rattle.format.specs.Rested.{Headed, Read, crim-read, asked, headed, n-bytes}
 use Rattle.format.specs.declared.Counts.{Counts}
 
 -- bytes 4 to 7, which hold CRIM.size
@@ -56,43 +56,11 @@ pub record Room (words : List ℕ) (capacities : Counts) (ls : List (List Entry)
   pub enough : areas (ten capacities) widths ≤ length words
   pub within : Within (ten capacities) ls
 
--- what the header's words are, and the bytes asked for
-record Headed (s : List ℕ) (h : Header) (ps : List ℕ) : Type 0 where
-  asked : ps ≡ span 0 16
-  signature : le 4 s 0 ≡ CRIM
-  size : h .size ≡ le 4 s 4
-  major : h .major ≡ le 2 s 8
-  minor : h .minor ≡ le 2 s 10
-  count : h .count ≡ le 4 s 12
-  least : 16 ≤ h .size
-  fits : h .size ≤ length s
-
-header-asks : (s : List ℕ) → Finds header s (Headed s)
-unfolding header
-header-asks s =
-    finds-room (λ a. finds-next 4 0 (λ f ef. finds-demand _ _ (λ d. finds-room (λ b. finds-next 4 4 (λ z ez. finds-room (λ e. finds-next 2 8 (λ j ej.
-    finds-room (λ g. finds-next 2 10 (λ i ei. finds-room (λ k. finds-next 4 12 (λ n en. finds-demand _ _ (λ l. finds-room (λ w. finds-got (
-    record {
-      asked = unfold span in refl; signature = sym ef ∙ eqb-true f CRIM d; size = ez; major = ej; minor = ei; count = en; least = leb-true 16 z l; fits = w
-    }))))))))))))))
-
 header-run : (s : List ℕ) → le 4 s 0 ≡ CRIM → 16 ≤ le 4 s 4 → le 4 s 4 ≤ length s
     → run header s ≡ done (record { size = le 4 s 4; major = le 2 s 8; minor = le 2 s 10; count = le 4 s 12 })
 unfolding header run demand
 header-run s sig least fits =
     simp (run-number, le-leb 4 (length s) (omega arith), le-leb 8 (length s) (omega arith), le-leb 10 (length s) (omega arith), le-leb 12 (length s) (omega arith), le-leb 16 (length s) (omega arith), eq-eqb (le 4 s 0) CRIM sig, le-leb 16 (le 4 s 4) least, le-leb (le 4 s 4) (length s) fits)
-
--- an accepted reading, taken apart: the header over the lent bytes, the providers over the first size of them
-record Read (s : List ℕ) (c : Crim) : Type 0 where
-  headed : run header s ≡ done (c .header)
-  provided : run (providersOf (c .header)) (take (c .header .size) s) ≡ done (c .providers)
-
-crim-read : (s : List ℕ) (c : Crim) → crim s ≡ done c → Read s c
-unfolding crim
-crim-read s c e =
-    let h = then-done _ _ c e in
-    let p = then-done _ _ c (h .2) in
-    subst (Read s) (same _ _ (p .2)) (record { headed = h .1; provided = p .1 })
 
 -- 9 changes nothing else
 with-room-same : {A : Type 0} (n : ℕ) (cs : List ℕ) (ls : List (List Entry)) (a b : A) → with-room n cs ls a ≡ done b → done a ≡ done b
@@ -164,26 +132,6 @@ each-second P (p ∷ ps) qs h = each-second P ps qs (h .1)
 each-of : (P Q R S : ℕ → Type 0) (ps : List ℕ) → ((p : ℕ) → P p → Q p → R p → S p) → Each P ps → Each Q ps → Each R ps → Each S ps
 each-of P Q R S [] f hp hq hr = tt
 each-of P Q R S (p ∷ ps) f hp hq hr = (f p (hp .0) (hq .0) (hr .0), each-of P Q R S ps f (hp .1) (hq .1) (hr .1))
-
-module _ (first : List ℕ) (c : Crim) (read : Read first c) where
-  asked : Asked (take (c .header .size) first) (places (providersOf (c .header)) (take (c .header .size) first)) (providersBytes (c .providers))
-  asked = providers-asked (take (c .header .size) first) (c .header) .found (c .providers) (read .provided)
-
-  headed : Headed first (c .header) (places header first)
-  headed = header-asks first .found (c .header) (read .headed)
-
-  n-bytes : length (take (c .header .size) first) ≡ c .header .size
-  n-bytes = length-take-le (c .header .size) first (headed .fits)
-
--- the bytes that an accepted blob's reading asks for are those that it rests on, and no other, and each lies in the blob
-pub rests : (s : List ℕ) (c : Crim) → crim s ≡ done c
-    → (places header s ++ places (providersOf (c .header)) (take (c .header .size) s) ≡ restsOn c) × Each (λ p. p < c .header .size) (restsOn c)
-unfolding restsOn
-rests s c e =
-    let read = crim-read s c e in
-    (ap₂ (λ (a b : List ℕ). a ++ b) (headed s c read .asked) (asked s c read .equal),
-    inside-append (c .header .size) (span 0 16) (providersBytes (c .providers)) (inside-span (c .header .size) 0 16 (headed s c read .least))
-    (subst (λ n. Each (λ p. p < n) (providersBytes (c .providers))) (n-bytes s c read) (asked s c read .inside)))
 
 -- the same block with the second's size
 abbrev resized : List ℕ → Crim → Crim

@@ -96,15 +96,22 @@ table =
     empty =
         record {
           answer = record { code = 0; field = 0; place = 0; first = 16; second = 0; counts = none };
-          lists = replicate 10 [] }
+          lists = replicate 10 [];
+        }
+
     whole : Row
     whole =
         record {
           answer =
               record {
-                code = 0; field = 0; place = 0; first = 116; second = 0;
+                code = 0;
+                field = 0;
+                place = 0;
+                first = 116;
+                second = 0;
                 counts =
-                    record { providers = 1; descriptors = 1; unknown2 = 0; tables = 1; definitions = 0; events = 0; maps = 0; entries = 0; templates = 1; unknown = 0 } };
+                    record { providers = 1; descriptors = 1; unknown2 = 0; tables = 1; definitions = 0; events = 0; maps = 0; entries = 0; templates = 1; unknown = 0 };
+              };
           lists =
               (0 ∷ 0 ∷ 0 ∷ 0 ∷ 36 ∷ 80 ∷ 0 ∷ 1 ∷ 0 ∷ [])
               ∷ (64 ∷ 0 ∷ 0x4C425454 ∷ [])
@@ -116,7 +123,8 @@ table =
               ∷ []
               ∷ (76 ∷ 40 ∷ 0 ∷ 0 ∷ 0 ∷ 0 ∷ 0 ∷ 0 ∷ 0 ∷ 0 ∷ 116 ∷ 0 ∷ [])
               ∷ []
-              ∷ [] }
+              ∷ [];
+        }
 
 -- every row is what the definition finds
 cases : map (λ c. found (c .bytes)) table ≡ map (λ c. c .row) table

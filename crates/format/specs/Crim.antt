@@ -14,17 +14,17 @@ use Rattle.format.specs.Provider.{Provider, providerAt}
 abbrev pub CRIM : ℕ
 CRIM = 0x4D495243
 
-pub record Header : Type 0 where
+pub record CrimHeader : Type 0 where
   pub size : ℕ
   pub major : ℕ
   pub minor : ℕ
   pub count : ℕ
 
 pub record Crim : Type 0 where
-  pub header : Header
+  pub header : CrimHeader
   pub providers : List Provider
 
-unfoldable pub header : Reading Header
+unfoldable pub header : Reading CrimHeader
 header =
     whole CRIM-signature 0 4 (
     number 4 0 >>= λ found.
@@ -42,7 +42,7 @@ unfoldable pub describedAt : ℕ → Reading Provider
 describedAt at = guidAt at >>= λ guid. number 4 (at + 16) >>= λ offset. providerAt guid offset
 
 -- ".. the array must fit whole, else 1"
-unfoldable pub providersOf : Header → Reading (List Provider)
+unfoldable pub providersOf : CrimHeader → Reading (List Provider)
 providersOf h = whole CRIM-provider-descriptor-array 16 (20 * h .count) (many describedAt (step 20) (h .count) 16)
 
 -- the header is read over the lent bytes, the rest over the first size of them

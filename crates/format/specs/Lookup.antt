@@ -116,8 +116,8 @@ unfoldable pub guidsOf : List ℕ → Counts → Counts → Key → List Entry
 guidsOf words capacities counts key =
     let tables = listed words capacities counts 4 in
     flat (λ p.
-      let ts = owned tables p TTBL (listed words capacities counts 9) in
-      once [] (flat (λ e. guidAtOffset ts (word 9 e)) (select (asked key) (owned tables p EVNT (listed words capacities counts 6)))))
+    let ts = owned tables p TTBL (listed words capacities counts 9) in
+    once [] (flat (λ e. guidAtOffset ts (word 9 e)) (select (asked key) (owned tables p EVNT (listed words capacities counts 6)))))
     (position (λ p. alike (take 4 p) (guidWords (key .guid))) 0 (listed words capacities counts 1))
 
 -- "By key .. into a lent list of 4-word entries (9, list number 11, if short)"; "A list lent singly has as capacity its length over its

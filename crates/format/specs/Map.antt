@@ -29,6 +29,7 @@ pub record Map : Type 0 where
 -- `VMAP` and `BMAP` as little-endian numbers
 abbrev pub VMAP : ℕ
 VMAP = 0x50414D56
+
 abbrev pub BMAP : ℕ
 BMAP = 0x50414D42
 
@@ -52,8 +53,16 @@ valueMapAt region at =
     many entryAt (step 8) count (at + 16) >>= λ entries.
     nameAt VMAP-map-string string >>= λ name.
     got (record {
-      kind = 1; signature = VMAP; offset = at; size = size; string = string; name = name; entries = entries;
-      start = at + 16 + 8 * count; length = size - (16 + 8 * count) }))))))
+      kind = 1;
+      signature = VMAP;
+      offset = at;
+      size = size;
+      string = string;
+      name = name;
+      entries = entries;
+      start = at + 16 + 8 * count;
+      length = size - (16 + 8 * count);
+    }))))))
 
 -- "A BMAP or other map gives up to 4 bytes from its place, fewer or none past the region end." (its four signature bytes are in the
 -- blob); "for BMAP and others size, string, first and count are 0" (the lists)
@@ -64,8 +73,16 @@ up-to-4 (until e) at = min 4 (e - at)
 abbrev pub otherMap : Region → ℕ → ℕ → Map
 otherMap region at signature =
     record {
-      kind = choose (eqb signature BMAP) 2 3; signature = signature; offset = at; size = 0; string = 0; name = absent; entries = [];
-      start = at; length = up-to-4 region at }
+      kind = choose (eqb signature BMAP) 2 3;
+      signature = signature;
+      offset = at;
+      size = 0;
+      string = 0;
+      name = absent;
+      entries = [];
+      start = at;
+      length = up-to-4 region at;
+    }
 
 -- "A map's place past the blob is 5, its signature cut short 1."
 unfoldable pub mapAt : Region → ℕ → Reading Map

@@ -114,4 +114,11 @@ providerAt guid at =
     many (number 4) (step 4) u words >>= λ unknown2.
     each elementAt descriptors >>= λ elements.
     got (record {
-      guid = guid; offset = at; size = size; message = message; descriptors = descriptors; unknown2 = unknown2; elements = elements }))))))
+      guid = guid;
+      offset = at;
+      size = size;
+      message = message;
+      descriptors = descriptors;
+      unknown2 = unknown2;
+      elements = elements;
+    }))))))

@@ -1,20 +1,23 @@
--- The reading asks for the bytes of Rests, for no other, and each of them lies in the blob.
+-- The reading asks for the bytes of Rests, for no other, and each of them lies in the blob: `rests`, at the end, from a theorem for each
+-- structure.
 use Prim.{Unit, tt}
 use Prim.Native.Nat.{ℕ, zero, suc, _+_, _-_, _*_, _/_, _%_, _≤_, _<_}
-use mathlib.Core.Path.{_≡_, refl, ap, sym, _∙_, subst}
+use mathlib.Core.Path.{_≡_, refl, ap, ap₂, sym, _∙_, subst}
 use mathlib.Core.Bool.{Bool, true, false, not}
 use mathlib.Core.List.{List, [], _∷_, _++_, append-assoc, append-nil}
 use native.Mathlib.Nat.{mul-suc}
 use native.Mathlib.Omega.{arith}
-use lib.ListN.{length}
+use lib.ListN.{length, take}
+use lib.Seq.{length-take-le}
 use lib.Dec.{leb, eqb}
 use borrow.Author.Tests.{leb-true, eqb-true, eqb-false}
 use Rattle.blob.specs.Le.{le}
 use Rattle.blob.specs.Laid.{flat}
 use Rattle.blob.specs.Places.{Each, span, rows}
 use Rattle.blob.specs.declared.Refusal.{Refusal}
-use Rattle.blob.specs.Reading.{Reading, got, choose, run, _>>=_, number, many}
-use Rattle.blob.specs.Asks.{Finds, finds-got, finds-stop, finds-room, finds-choose, finds-demand, finds-bind, finds-so, finds-fixed, finds-number-asked, finds-next, finds-many, finds-each, Asked, asked-none, asked-append, asked-last, asked-span, asked-join, span-append, span-join, inside-span}
+use Rattle.blob.specs.Reading.{Reading, got, done, choose, run, places, _>>=_, number, many}
+use Rattle.blob.specs.Laws.{then-done, same}
+use Rattle.blob.specs.Asks.{Finds, finds-got, finds-stop, finds-room, finds-choose, finds-demand, finds-bind, finds-so, finds-fixed, finds-number-asked, finds-next, finds-many, finds-each, Asked, asked-none, asked-append, asked-last, asked-span, asked-join, span-append, span-join, inside-span, inside-append}
 use Rattle.format.specs.Name.{text, sized, nameAt, absent, low, high}
 use Rattle.format.specs.Region.{Region, blob-end, until, inside, bounded, regionAt}
 use Rattle.format.specs.Table.{CHAN, EVNT, KEYW, LEVL, MAPS, OPCO, TASK, TTBL, Header, signature, kinds, kindIn, header-length, stride, headerAt, tableEnd}
@@ -23,8 +26,7 @@ use Rattle.format.specs.Event.{eventAt}
 use Rattle.format.specs.Template.{itemsAt, templateAt, templatesAt, next}
 use Rattle.format.specs.Map.{Map, VMAP, BMAP, entryAt, valueMapAt, otherMap, mapAt, mapsAt}
 use Rattle.format.specs.Provider.{Element, Provider, definitions, plain, elementOf, eventsAt, unknownAt, elementAt, descriptorAt, providerAt}
-use Rattle.format.specs.Crim as Crim
-use Rattle.format.specs.Crim.{describedAt, providersOf}
+use Rattle.format.specs.Crim.{CRIM, CrimHeader, Crim, header, describedAt, providersOf, crim}
 use Rattle.format.specs.Rests.{nameBytes, definitionBytes, mapBytes, mapsBytes, tableBytes, elementBytes, descriptorBytes, providerBytes, providersBytes, restsOn}
 use Rattle.format.specs.declared.Name.{Name}
 use Rattle.format.specs.declared.Guid.{Guid}
@@ -75,6 +77,7 @@ module _ (s : List ℕ) where
       longer n qs g =
           let e : 2 + (2 * (n .units - (k + 1)) + choose (n .ended) 2 0) ≡ 2 * (n .units - k) + choose (n .ended) 2 0 = omega (arith, g .0) in
           (omega (arith, g .0), subst (λ w. Asked s (span at 2 ++ qs) (span at w)) e (asked-join at 2 _ (omega arith) (g .1)))
+
       more : {r : Reading Name} → Finds r s (λ n qs. (k + 1 ≤ n .units) × Asked s qs (unitBytes (at + 2) (k + 1) n))
           → Finds r s (λ n qs. (k ≤ n .units) × Asked s (span at 2 ++ qs) (unitBytes at k n))
       more ih = finds-so ih longer
@@ -249,16 +252,31 @@ module _ (s : List ℕ) where
   unfolding elementAt elementOf definitionAt elementBytes tableBytes
   element-asks d =
       kind-cases (λ k. Finds (elementOf k (d .offset)) s (λ e ps. Asked s ps (elementBytes e))) kinds (d .signature)
-      (unknown-asks at)
-      (definitions-asks CHAN at refl channel-asks,
-      (events-asks at,
-      (definitions-asks KEYW at refl keyword-asks,
-      (definitions-asks LEVL at refl (λ p. plain-asks LEVL _ p refl),
-      (finds-fixed _ _ (header-asks MAPS at) (λ h w. finds-bind _ (maps-asks at h) (λ ms ps g. finds-got (asked-append (asked-span at 12 (omega arith)) (asked-last g)))),
-      (definitions-asks OPCO at refl (λ p. plain-asks OPCO _ p refl),
-      (definitions-asks TASK at refl task-asks,
-      (finds-fixed _ _ (header-asks TTBL at) (λ h w. finds-bind _ (templates-asks at h) (λ ts ps g. finds-got (asked-append (asked-span at 12 w) (asked-last g)))),
-      tt))))))))
+      (unknown-asks at) (
+        definitions-asks CHAN at refl channel-asks,
+        (
+          events-asks at,
+          (
+            definitions-asks KEYW at refl keyword-asks,
+            (
+              definitions-asks LEVL at refl (λ p. plain-asks LEVL _ p refl),
+              (
+                finds-fixed _ _ (header-asks MAPS at) (λ h w. finds-bind _ (maps-asks at h) (λ ms ps g. finds-got (asked-append (asked-span at 12 (omega arith)) (asked-last g)))),
+                (
+                  definitions-asks OPCO at refl (λ p. plain-asks OPCO _ p refl),
+                  (
+                    definitions-asks TASK at refl task-asks,
+                    (
+                      finds-fixed _ _ (header-asks TTBL at) (λ h w. finds-bind _ (templates-asks at h) (λ ts ps g. finds-got (asked-append (asked-span at 12 w) (asked-last g)))),
+                      tt,
+                    ),
+                  ),
+                ),
+              ),
+            ),
+          ),
+        ),
+      )
     where
       at : ℕ
       at = d .offset
@@ -289,6 +307,66 @@ module _ (s : List ℕ) where
       simp (span-join) (asked-append (asked-span at 20 h) a))))
 
   -- all that is read of the providers
-  pub providers-asked : (h : Crim.Header) → Finds (providersOf h) s (λ ps qs. Asked s qs (providersBytes ps))
+  pub providers-asked : (h : CrimHeader) → Finds (providersOf h) s (λ ps qs. Asked s qs (providersBytes ps))
   unfolding providersOf
   providers-asked h = finds-room (λ a. finds-so (finds-rows 20 (λ at p. span at 20 ++ providerBytes p) described-asks (h .count) 16 a) (λ ps qs g. g .0))
+
+-- what the header's words are, and the bytes asked for
+pub record Headed (s : List ℕ) (h : CrimHeader) (ps : List ℕ) : Type 0 where
+  pub asked : ps ≡ span 0 16
+  pub signature : le 4 s 0 ≡ CRIM
+  pub size : h .size ≡ le 4 s 4
+  pub major : h .major ≡ le 2 s 8
+  pub minor : h .minor ≡ le 2 s 10
+  pub count : h .count ≡ le 4 s 12
+  pub least : 16 ≤ h .size
+  pub fits : h .size ≤ length s
+
+pub crim-header-asks : (s : List ℕ) → Finds header s (Headed s)
+unfolding header
+crim-header-asks s =
+    finds-room (λ a. finds-next 4 0 (λ f ef. finds-demand _ _ (λ d. finds-room (λ b. finds-next 4 4 (λ z ez. finds-room (λ e. finds-next 2 8 (λ j ej.
+    finds-room (λ g. finds-next 2 10 (λ i ei. finds-room (λ k. finds-next 4 12 (λ n en. finds-demand _ _ (λ l. finds-room (λ w. finds-got (
+    record {
+      asked = unfold span in refl;
+      signature = sym ef ∙ eqb-true f CRIM d;
+      size = ez;
+      major = ej;
+      minor = ei;
+      count = en;
+      least = leb-true 16 z l;
+      fits = w;
+    }))))))))))))))
+
+-- an accepted reading, taken apart: the header over the lent bytes, the providers over the first size of them
+pub record Read (s : List ℕ) (c : Crim) : Type 0 where
+  pub headed : run header s ≡ done (c .header)
+  pub provided : run (providersOf (c .header)) (take (c .header .size) s) ≡ done (c .providers)
+
+pub crim-read : (s : List ℕ) (c : Crim) → crim s ≡ done c → Read s c
+unfolding crim
+crim-read s c e =
+    let h = then-done _ _ c e in
+    let p = then-done _ _ c (h .2) in
+    subst (Read s) (same _ _ (p .2)) (record { headed = h .1; provided = p .1 })
+
+module _ (s : List ℕ) (c : Crim) (read : Read s c) where
+  pub asked : Asked (take (c .header .size) s) (places (providersOf (c .header)) (take (c .header .size) s)) (providersBytes (c .providers))
+  asked = providers-asked (take (c .header .size) s) (c .header) .found (c .providers) (read .provided)
+
+  pub headed : Headed s (c .header) (places header s)
+  headed = crim-header-asks s .found (c .header) (read .headed)
+
+  pub n-bytes : length (take (c .header .size) s) ≡ c .header .size
+  n-bytes = length-take-le (c .header .size) s (headed .fits)
+
+-- the bytes that an accepted blob's reading asks for are those that it rests on, and no other, and each lies in the blob
+pub rests : (s : List ℕ) (c : Crim) → crim s ≡ done c
+    → (places header s ++ places (providersOf (c .header)) (take (c .header .size) s) ≡ restsOn c) × Each (λ p. p < c .header .size) (restsOn c)
+unfolding restsOn
+rests s c e =
+    let read = crim-read s c e in (
+      ap₂ (λ (a b : List ℕ). a ++ b) (headed s c read .asked) (asked s c read .equal),
+      inside-append (c .header .size) (span 0 16) (providersBytes (c .providers)) (inside-span (c .header .size) 0 16 (headed s c read .least))
+          (subst (λ n. Each (λ p. p < n) (providersBytes (c .providers))) (n-bytes s c read) (asked s c read .inside)),
+    )

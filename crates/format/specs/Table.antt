@@ -12,18 +12,25 @@ use Rattle.format.specs.Region.{bounded}
 -- "Kinds: CHAN 1, EVNT 2, KEYW 3, LEVL 4, MAPS 5, OPCO 6, TASK 7, TTBL 8." (the lists)
 abbrev pub CHAN : ℕ
 CHAN = 1
+
 abbrev pub EVNT : ℕ
 EVNT = 2
+
 abbrev pub KEYW : ℕ
 KEYW = 3
+
 abbrev pub LEVL : ℕ
 LEVL = 4
+
 abbrev pub MAPS : ℕ
 MAPS = 5
+
 abbrev pub OPCO : ℕ
 OPCO = 6
+
 abbrev pub TASK : ℕ
 TASK = 7
+
 abbrev pub TTBL : ℕ
 TTBL = 8
 

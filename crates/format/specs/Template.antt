@@ -62,8 +62,16 @@ templateAt region at =
     demand (not (eqb descriptors 0) || eqb names 0) (count-out TEMP-item-name-count-expected-0 (at + 12) names) (
     itemsAt size (itemsOf (blob-place at) size (blob-place offset)) >>= λ t.
     got (record {
-      offset = at; size = size; descriptors = descriptors; names = names; items = offset; event = event; guid = guid;
-      start = at + 40; length = t .0 - 40 }))))))
+      offset = at;
+      size = size;
+      descriptors = descriptors;
+      names = names;
+      items = offset;
+      event = event;
+      guid = guid;
+      start = at + 40;
+      length = t .0 - 40;
+    }))))))
 
 -- the next TEMP stands behind this one
 abbrev pub next : Template → ℕ → ℕ
