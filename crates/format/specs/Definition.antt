@@ -3,12 +3,15 @@
 use Prim.Native.Nat.{ℕ, _+_}
 use mathlib.Core.List.{List}
 use lib.Dec.{eqb}
-use Rattle.blob.specs.Reading.{Reading, got, choose, _>>=_, number, many}
+use Rattle.blob.specs.Reading.{Reading, got, Outcome, done, refused, choose, _>>=_, number, many}
 use Rattle.format.specs.Field.{CHAN-name, KEYW-data, LEVL-data, OPCO-data, TASK-data}
 use Rattle.format.specs.Name.{nameAt}
-use Rattle.format.specs.Table.{CHAN, KEYW, LEVL, OPCO, TASK, Header, headerAt, tableEnd, header-length, stride}
+use Rattle.format.specs.Table.{CHAN, KEYW, LEVL, OPCO, TASK, headerAt, tableEnd, header-length, stride}
+use Rattle.format.specs.declared.Header.{Header}
 use Rattle.format.specs.declared.Guid.{Guid}
 use Rattle.format.specs.declared.Definition.{Definition}
+use Rattle.format.specs.declared.DefinitionRead.{DefinitionRead}
+use Rattle.format.specs.declared.DefinitionRead.the-variants as read
 
 -- "GUID words are its 16 bytes as little-endian words." (the lists)
 unfoldable pub guidAt : ℕ → Reading Guid
@@ -54,6 +57,11 @@ definitionAt k at =
     choose (eqb k KEYW) (keywordAt at) (
     choose (eqb k TASK) (taskAt at) (
     choose (eqb k LEVL) (plainAt LEVL LEVL-data at) (plainAt OPCO OPCO-data at))))
+
+-- what the code answers for a definition
+abbrev pub definitionRead : Outcome Definition → DefinitionRead
+definitionRead (done d) = read.Definition d
+definitionRead (refused r) = read.Refused r
 
 -- records of one length stand in a row
 abbrev pub step : {A : Type 0} → ℕ → A → ℕ → ℕ

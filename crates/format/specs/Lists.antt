@@ -8,12 +8,13 @@ use lib.Dec.{eqb}
 use Rattle.blob.specs.Reading.{choose}
 use Rattle.blob.specs.Laid.{flat}
 use Rattle.format.specs.Table.{kinds}
-use Rattle.format.specs.Map.{Map}
+use Rattle.format.specs.Map.{Mapped}
 use Rattle.format.specs.Provider.{Rows, definitions, events, maps, templates, Table, Element, table, unknown, Provider}
 use Rattle.format.specs.declared.Guid.{Guid}
 use Rattle.format.specs.declared.Definition.{Definition}
 use Rattle.format.specs.declared.Event.{Event}
 use Rattle.format.specs.declared.Template.{Template}
+use Rattle.format.specs.declared.Map.{Map}
 use Rattle.format.specs.declared.MapEntry.{MapEntry}
 use Rattle.format.specs.declared.Descriptor.{Descriptor}
 use Rattle.format.specs.declared.Unknown.{Unknown}
@@ -54,7 +55,7 @@ eventWords e =
 abbrev pub mapWords : ℕ → Map → Entry
 mapWords before m =
     m .kind ∷ m .signature ∷ m .offset ∷ m .size ∷ m .string ∷ m .name .start ∷ m .name .units
-    ∷ choose (eqb (m .kind) 1) before 0 ∷ length (m .entries) ∷ m .start ∷ m .length ∷ []
+    ∷ choose (eqb (m .kind) 1) before 0 ∷ m .count ∷ m .start ∷ m .length ∷ []
 
 -- "8 map entries | 2 | identifier, message"
 abbrev pub mapEntryWords : MapEntry → Entry
@@ -152,7 +153,7 @@ eventsIn (events es) = es
 eventsIn (maps ms) = []
 eventsIn (templates ts) = []
 
-abbrev pub mapsIn : Rows → List Map
+abbrev pub mapsIn : Rows → List Mapped
 mapsIn (definitions ds) = []
 mapsIn (events es) = []
 mapsIn (maps ms) = ms
@@ -164,9 +165,9 @@ templatesIn (events es) = []
 templatesIn (maps ms) = []
 templatesIn (templates ts) = ts
 
-unfoldable pub mapList : ℕ → List Map → List Entry
+unfoldable pub mapList : ℕ → List Mapped → List Entry
 mapList n [] = []
-mapList n (m ∷ ms) = mapWords n m ∷ mapList (n + length (m .entries)) ms
+mapList n (m ∷ ms) = mapWords n (m .map) ∷ mapList (n + length (m .entries)) ms
 
 -- the ten lists, in their order
 unfoldable pub lists : List Provider → List (List Entry)

@@ -11,7 +11,7 @@ use Rattle.format.specs.Table.{EVNT, MAPS, TTBL, kindOf, headerAt, heade
 use Rattle.format.specs.Definition.{definitionsAt, step}
 use Rattle.format.specs.Event.{eventAt}
 use Rattle.format.specs.Template.{templatesAt}
-use Rattle.format.specs.Map.{Map, mapsAt}
+use Rattle.format.specs.Map.{Mapped, mapsAt}
 use Rattle.format.specs.declared.Guid.{Guid}
 use Rattle.format.specs.declared.Definition.{Definition}
 use Rattle.format.specs.declared.Event.{Event}
@@ -27,7 +27,7 @@ WEVT = 0x54564557
 pub data Rows : Type 0 where
   definitions : List Definition → Rows
   events : List Event → Rows
-  maps : List Map → Rows
+  maps : List Mapped → Rows
   templates : List Template → Rows
 
 pub record Table : Type 0 where

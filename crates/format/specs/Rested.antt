@@ -20,14 +20,15 @@ use Rattle.blob.specs.Laws.{then-done, same}
 use Rattle.blob.specs.Asks.{Finds, finds-got, finds-stop, finds-room, finds-choose, finds-demand, finds-bind, finds-so, finds-fixed, finds-number-asked, finds-next, finds-many, finds-each, Asked, asked-none, asked-append, asked-last, asked-span, asked-join, span-append, span-join, inside-span, inside-append}
 use Rattle.format.specs.Name.{text, sized, nameAt, absent, low, high}
 use Rattle.format.specs.Region.{Region, blob-end, until, inside, bounded, regionAt}
-use Rattle.format.specs.Table.{CHAN, EVNT, KEYW, LEVL, MAPS, OPCO, TASK, TTBL, Header, signature, kinds, kindIn, header-length, stride, headerAt, tableEnd}
+use Rattle.format.specs.Table.{CHAN, EVNT, KEYW, LEVL, MAPS, OPCO, TASK, TTBL, signature, kinds, kindIn, header-length, stride, headerAt, tableEnd}
 use Rattle.format.specs.Definition.{guidAt, channelAt, keywordAt, taskAt, plainAt, definitionAt, definitionsAt, step}
 use Rattle.format.specs.Event.{eventAt}
 use Rattle.format.specs.Template.{itemsAt, templateAt, templatesAt, next}
-use Rattle.format.specs.Map.{Map, VMAP, BMAP, entryAt, valueMapAt, otherMap, mapAt, mapsAt}
+use Rattle.format.specs.Map.{Mapped, VMAP, BMAP, entryAt, valueMapAt, otherMap, mapAt, mapsAt}
 use Rattle.format.specs.Provider.{Element, Provider, definitions, plain, elementOf, eventsAt, unknownAt, elementAt, descriptorAt, providerAt}
 use Rattle.format.specs.Crim.{CRIM, CrimHeader, Crim, header, describedAt, providersOf, crim}
 use Rattle.format.specs.Rests.{nameBytes, definitionBytes, mapBytes, mapsBytes, tableBytes, elementBytes, descriptorBytes, providerBytes, providersBytes, restsOn}
+use Rattle.format.specs.declared.Header.{Header}
 use Rattle.format.specs.declared.Name.{Name}
 use Rattle.format.specs.declared.Guid.{Guid}
 use Rattle.format.specs.declared.Definition.{Definition}

@@ -14,7 +14,7 @@ use Rattle.blob.specs.Places.{span, rows}
 use Rattle.format.specs.Table.{header-length, stride}
 use Rattle.format.specs.Definition.{step}
 use Rattle.format.specs.Template.{next}
-use Rattle.format.specs.Map.{Map}
+use Rattle.format.specs.Map.{Mapped}
 use Rattle.format.specs.Provider.{Rows, definitions, events, maps, templates, Table, Element, table, unknown, Provider}
 use Rattle.format.specs.Crim.{Crim}
 use Rattle.format.specs.declared.Name.{Name}
@@ -35,14 +35,15 @@ abbrev pub definitionBytes : ℕ → ℕ → Definition → List ℕ
 definitionBytes k at d = span at (stride k) ++ nameBytes (d .offset) (d .name)
 
 -- "VMAP headers and entries", and the name; of another map "each map's signature"
-unfoldable pub mapBytes : Map → List ℕ
+unfoldable pub mapBytes : Mapped → List ℕ
 mapBytes m =
-    choose (eqb (m .kind) 1)
-    (span (m .offset) 16 ++ (rows (λ at e. span at 8) (step 8) (m .offset + 16) (m .entries) ++ nameBytes (m .string) (m .name)))
-    (span (m .offset) 4)
+    let at = m .map .offset in
+    choose (eqb (m .map .kind) 1)
+    (span at 16 ++ (rows (λ p e. span p 8) (step 8) (at + 16) (m .entries) ++ nameBytes (m .map .string) (m .map .name)))
+    (span at 4)
 
 -- "MAPS offsets": map 0, then each offset with its map
-unfoldable pub mapsBytes : ℕ → List Map → List ℕ
+unfoldable pub mapsBytes : ℕ → List Mapped → List ℕ
 mapsBytes at [] = []
 mapsBytes at (m ∷ ms) = mapBytes m ++ rows (λ p n. span p 4 ++ mapBytes n) (step 4) (at + 16) ms
 

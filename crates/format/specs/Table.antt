@@ -4,10 +4,13 @@ use Prim.Native.Nat.{ℕ, _+_, _*_}
 use mathlib.Core.List.{List, [], _∷_}
 use lib.ListN.{getD}
 use lib.Dec.{leb, eqb}
-use Rattle.blob.specs.Reading.{Reading, got, choose, demand, _>>=_, number}
+use Rattle.blob.specs.Reading.{Reading, got, Outcome, done, refused, choose, demand, _>>=_, number}
 use Rattle.format.specs.Field.{table-offset, table-header, table-size, table-array}
 use Rattle.format.specs.Refuse.{whole, within, wrong-signature, size-out}
 use Rattle.format.specs.Region.{bounded}
+use Rattle.format.specs.declared.Header.{Header}
+use Rattle.format.specs.declared.HeaderRead.{HeaderRead}
+use Rattle.format.specs.declared.HeaderRead.the-variants as read
 
 -- "Kinds: CHAN 1, EVNT 2, KEYW 3, LEVL 4, MAPS 5, OPCO 6, TASK 7, TTBL 8." (the lists)
 abbrev pub CHAN : ℕ
@@ -57,11 +60,6 @@ header-length k = getD (0 ∷ 12 ∷ 16 ∷ 12 ∷ 12 ∷ 16 ∷ 12 ∷ 12 ∷ 1
 abbrev pub stride : ℕ → ℕ
 stride k = getD (0 ∷ 16 ∷ 48 ∷ 16 ∷ 12 ∷ 0 ∷ 12 ∷ 28 ∷ 0 ∷ []) k 0
 
--- a table's size and count words
-pub record Header : Type 0 where
-  pub size : ℕ
-  pub count : ℕ
-
 unfoldable pub headerAt : ℕ → ℕ → Reading Header
 headerAt k at =
     within (table-offset k) at (
@@ -82,3 +80,8 @@ tableEnd k at h =
     (whole (table-array k) start bytes (got (start + bytes)))
     (bounded (table-size k) at (h .size) (header-length k) >>= λ e.
     demand (leb (start + bytes) e) (size-out (table-array k) at (h .size)) (got e))
+
+-- what the code answers for a header
+abbrev pub headerRead : Outcome Header → HeaderRead
+headerRead (done h) = read.Header h
+headerRead (refused r) = read.Refused r

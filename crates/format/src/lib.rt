@@ -29,6 +29,18 @@ pub enum EndRead {
     Refused(Refusal),
 }
 
+// A table's size and count words.
+pub struct Header {
+    pub size: u32,
+    pub count: u32,
+}
+
+// What reading a table's header finds.
+pub enum HeaderRead {
+    Header(Header),
+    Refused(Refusal),
+}
+
 // A record of CHAN, KEYW, LEVL, OPCO or TASK, one entry type for all five.
 pub struct Definition {
     pub kind: u32,
@@ -39,6 +51,12 @@ pub struct Definition {
     pub name: Name,
     pub unknown: u32,
     pub mui: Guid,
+}
+
+// What reading a definition's record finds.
+pub enum DefinitionRead {
+    Definition(Definition),
+    Refused(Refusal),
 }
 
 // A record of EVNT: the fields of the original's EventDefinition, in order, keywords as low and high.
@@ -85,6 +103,31 @@ pub struct Template {
     pub guid: Guid,
     pub start: u32,
     pub length: u32,
+}
+
+// What reading a TEMP finds.
+pub enum TemplateRead {
+    Template(Template),
+    Refused(Refusal),
+}
+
+// A map of a MAPS: a VMAP (kind 1), a BMAP (2) or another (3). For the last two size, string, name and count are 0.
+pub struct Map {
+    pub kind: u32,
+    pub signature: u32,
+    pub offset: u32,
+    pub size: u32,
+    pub string: u32,
+    pub name: Name,
+    pub count: u32,
+    pub start: u32,
+    pub length: u32,
+}
+
+// What reading a map finds.
+pub enum MapRead {
+    Map(Map),
+    Refused(Refusal),
 }
 
 // An entry of a VMAP.
