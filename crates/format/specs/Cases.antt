@@ -10,7 +10,7 @@ use Rattle.blob.specs.Laid.{laid, flat}
 use Rattle.format.specs.Name.{nameAt}
 use Rattle.format.specs.Region.{inside, bounded, regionAt}
 use Rattle.format.specs.Table.{signature, TTBL, kindIn, headerAt, tableEnd}
-use Rattle.format.specs.Definition.{guidAt, definitionAt, definitionsAt}
+use Rattle.format.specs.Definition.{guidAt, fieldsAt, definitionAt, definitionsAt}
 use Rattle.format.specs.Template.{TEMP, itemsAt, templateAt, templatesAt}
 use Rattle.format.specs.Map.{mapsAt}
 use Rattle.format.specs.Provider.{WEVT, eventsAt, unknownAt, elementOf, elementAt, descriptorAt, providerAt}
@@ -129,7 +129,7 @@ table =
 -- every row is what the definition finds
 cases : map (λ c. found (c .bytes)) table ≡ map (λ c. c .row) table
 unfolding found table
-    demand run then _>>=_ number many each le laid flat nameAt inside bounded regionAt kindIn headerAt tableEnd guidAt definitionAt definitionsAt
+    demand run then _>>=_ number many each le laid flat nameAt inside bounded regionAt kindIn headerAt tableEnd guidAt fieldsAt definitionAt definitionsAt
     itemsAt templateAt templatesAt mapsAt eventsAt unknownAt elementOf elementAt descriptorAt providerAt header describedAt providersOf crim
     lastOf unknowns ownedTables ownedUnknowns tableEntries mapList lists moderate areas with-room reading answer
 cases = refl

@@ -21,7 +21,7 @@ use Rattle.blob.specs.Asks.{Finds, finds-got, finds-stop, finds-room, finds-cho
 use Rattle.format.specs.Name.{text, sized, nameAt, absent, low, high}
 use Rattle.format.specs.Region.{Region, blob-end, until, inside, bounded, regionAt}
 use Rattle.format.specs.Table.{CHAN, EVNT, KEYW, LEVL, MAPS, OPCO, TASK, TTBL, signature, kinds, kindIn, header-length, stride, headerAt, tableEnd}
-use Rattle.format.specs.Definition.{guidAt, channelAt, keywordAt, taskAt, plainAt, definitionAt, definitionsAt, step}
+use Rattle.format.specs.Definition.{guidAt, channelFields, keywordFields, taskFields, plainFields, fieldsAt, definitionAt, definitionsAt, step}
 use Rattle.format.specs.Event.{eventAt}
 use Rattle.format.specs.Template.{itemsAt, templateAt, templatesAt, next}
 use Rattle.format.specs.Map.{Mapped, VMAP, BMAP, entryAt, valueMapAt, otherMap, mapAt, mapsAt}
@@ -98,30 +98,33 @@ module _ (s : List ℕ) where
       finds-next 4 at (λ a ea. finds-next 4 (at + 4) (λ b eb. finds-next 4 (at + 8) (λ c ec. finds-next 4 (at + 12) (λ d ed.
       finds-got (simp (span-join, span-append, append-nil), tt)))))
 
-  -- the fields are those of a record of so many bytes, and the name follows
-  channel-asks : (at : ℕ) → at + 16 ≤ length s → Finds (channelAt at) s (λ d ps. Asked s ps (definitionBytes CHAN at d))
-  unfolding channelAt
-  channel-asks at h =
-      finds-next 4 at (λ i ei. finds-next 4 (at + 4) (λ o eo. finds-next 4 (at + 8) (λ u eu. finds-next 4 (at + 12) (λ m em.
-      finds-bind _ (name-asks _ o) (λ n ps g. finds-got (simp (span-join, append-nil) (asked-append (asked-span at 16 h) g)))))))
+  -- the fields are those of a record of the kind's length
+  channel-asks : (at : ℕ) → Finds (channelFields at) s (λ d ps. (span at 16 ≡ ps) × Unit {0})
+  unfolding channelFields
+  channel-asks at =
+      finds-next 4 at (λ _ _. finds-next 4 (at + 4) (λ _ _. finds-next 4 (at + 8) (λ _ _. finds-next 4 (at + 12) (λ _ _. finds-got (simp (span-join, span-append, append-nil), tt)))))
 
-  keyword-asks : (at : ℕ) → at + 16 ≤ length s → Finds (keywordAt at) s (λ d ps. Asked s ps (definitionBytes KEYW at d))
-  unfolding keywordAt
-  keyword-asks at h =
-      finds-next 4 at (λ i ei. finds-next 4 (at + 4) (λ j ej. finds-next 4 (at + 8) (λ m em. finds-next 4 (at + 12) (λ o eo.
-      finds-bind _ (name-asks _ o) (λ n ps g. finds-got (simp (span-join, append-nil) (asked-append (asked-span at 16 h) g)))))))
+  keyword-asks : (at : ℕ) → Finds (keywordFields at) s (λ d ps. (span at 16 ≡ ps) × Unit {0})
+  unfolding keywordFields
+  keyword-asks at =
+      finds-next 4 at (λ _ _. finds-next 4 (at + 4) (λ _ _. finds-next 4 (at + 8) (λ _ _. finds-next 4 (at + 12) (λ _ _. finds-got (simp (span-join, span-append, append-nil), tt)))))
 
-  task-asks : (at : ℕ) → at + 28 ≤ length s → Finds (taskAt at) s (λ d ps. Asked s ps (definitionBytes TASK at d))
-  unfolding taskAt
-  task-asks at h =
-      finds-next 4 at (λ i ei. finds-next 4 (at + 4) (λ m em. finds-fixed _ _ (guid-asks (at + 8)) (λ u eu. finds-next 4 (at + 24) (λ o eo.
-      finds-bind _ (name-asks _ o) (λ n ps g. finds-got (simp (span-join, append-nil) (asked-append (asked-span at 28 h) g)))))))
+  task-asks : (at : ℕ) → Finds (taskFields at) s (λ d ps. (span at 28 ≡ ps) × Unit {0})
+  unfolding taskFields
+  task-asks at =
+      finds-next 4 at (λ _ _. finds-next 4 (at + 4) (λ _ _. finds-fixed _ _ (guid-asks (at + 8)) (λ _ _. finds-next 4 (at + 24) (λ _ _. finds-got (simp (span-join, span-append, append-nil), tt)))))
 
-  plain-asks : (k f at : ℕ) → stride k ≡ 12 → at + stride k ≤ length s → Finds (plainAt k f at) s (λ d ps. Asked s ps (definitionBytes k at d))
-  unfolding plainAt
-  plain-asks k f at e h =
-      finds-next 4 at (λ i ei. finds-next 4 (at + 4) (λ m em. finds-next 4 (at + 8) (λ o eo.
-      finds-bind _ (name-asks f o) (λ n ps g. finds-got (rw e (simp (span-join, append-nil) (asked-append (asked-span at 12 (rw e at h)) g)))))))
+  plain-asks : (k at : ℕ) → Finds (plainFields k at) s (λ d ps. (span at 12 ≡ ps) × Unit {0})
+  unfolding plainFields
+  plain-asks k at =
+      finds-next 4 at (λ _ _. finds-next 4 (at + 4) (λ _ _. finds-next 4 (at + 8) (λ _ _. finds-got (simp (span-join, span-append, append-nil), tt))))
+
+  -- a record of a kind whose fields are as `fields` says, and its name
+  definition-asks : (k at : ℕ) → Finds (fieldsAt k at) s (λ d ps. (span at (stride k) ≡ ps) × Unit {0}) → at + stride k ≤ length s
+      → Finds (definitionAt k at) s (λ d ps. Asked s ps (definitionBytes k at d))
+  unfolding definitionAt
+  definition-asks k at fields h =
+      finds-fixed _ _ fields (λ d _. finds-bind _ (name-asks _ (d .offset)) (λ n ps g. finds-got (asked-append (asked-span at (stride k) h) (asked-last g))))
 
   event-asks : (at : ℕ) → at + 48 ≤ length s → Finds (eventAt at) s (λ e ps. Asked s ps (span at 48))
   unfolding eventAt
@@ -240,17 +243,17 @@ module _ (s : List ℕ) where
       finds-got (simp (span-append, append-nil) (asked-span at 8 b)))))))
 
   -- a table of definitions, of a kind whose records are as `one` says
-  definitions-asks : (k at : ℕ) → header-length k ≡ 12 → ((p : ℕ) → p + stride k ≤ length s → Finds (definitionAt k p) s (λ d ps. Asked s ps (definitionBytes k p d)))
+  definitions-asks : (k at : ℕ) → header-length k ≡ 12 → ((p : ℕ) → Finds (fieldsAt k p) s (λ d ps. (span p (stride k) ≡ ps) × Unit {0}))
       → Finds (headerAt k at >>= λ h. definitionsAt k at h >>= λ ds. got (plain k at (h .size) (definitions ds))) s (λ e ps. Asked s ps (elementBytes e))
   unfolding definitionsAt elementBytes tableBytes
   definitions-asks k at l one =
       finds-fixed _ _ (header-asks k at) (λ h w. let w12 : at + 12 ≤ length s = rw l at w in
       finds-bind (λ ds ps. Asked s ps (rows (definitionBytes k) (step (stride k)) (at + 12) ds) × (length ds ≡ h .count)) (finds-fixed [] _ (end-asks k at h) (λ e f. let f12 : at + 12 + stride k * h .count ≤ length s = rw l at f in
-      rw l (finds-rows (stride k) (definitionBytes k) one (h .count) (at + 12) f12))) (λ ds ps g.
+      rw l (finds-rows (stride k) (definitionBytes k) (λ p. definition-asks k p (one p)) (h .count) (at + 12) f12))) (λ ds ps g.
       finds-got (asked-append (asked-span at 12 w12) (asked-last (g .0)))))
 
   element-asks : (d : Descriptor) → Finds (elementAt d) s (λ e ps. Asked s ps (elementBytes e))
-  unfolding elementAt elementOf definitionAt elementBytes tableBytes
+  unfolding elementAt elementOf fieldsAt elementBytes tableBytes
   element-asks d =
       kind-cases (λ k. Finds (elementOf k (d .offset)) s (λ e ps. Asked s ps (elementBytes e))) kinds (d .signature)
       (unknown-asks at) (
@@ -260,11 +263,11 @@ module _ (s : List ℕ) where
           (
             definitions-asks KEYW at refl keyword-asks,
             (
-              definitions-asks LEVL at refl (λ p. plain-asks LEVL _ p refl),
+              definitions-asks LEVL at refl (plain-asks LEVL),
               (
                 finds-fixed _ _ (header-asks MAPS at) (λ h w. finds-bind _ (maps-asks at h) (λ ms ps g. finds-got (asked-append (asked-span at 12 (omega arith)) (asked-last g)))),
                 (
-                  definitions-asks OPCO at refl (λ p. plain-asks OPCO _ p refl),
+                  definitions-asks OPCO at refl (plain-asks OPCO),
                   (
                     definitions-asks TASK at refl task-asks,
                     (
