@@ -7,11 +7,12 @@ use native.Mathlib.Nat.{mul-zero, mul-suc}
 use native.Mathlib.Omega.{arith}
 use lib.ListN.{length, getD, length-append}
 use lib.Dec.{leb}
+use borrow.Author.Tests.{le-leb, lt-leb}
 use Rattle.blob.specs.Le.{le}
 use Rattle.blob.specs.Laid.{laid, laid-more, flat}
 use Rattle.blob.specs.declared.Refusal.{Refusal}
 use Rattle.blob.specs.declared.Verdict.the-variants as verdicts
-use Rattle.blob.specs.Reading.{Reading, got, stop, room, byte, Outcome, done, refused, choose, run, _>>=_, number, many, then, verdict, values}
+use Rattle.blob.specs.Reading.{Reading, got, stop, room, byte, Outcome, done, refused, choose, demand, run, _>>=_, number, many, then, verdict, values}
 
 -- a refusal is never a value, and two values are equal where their outcomes are
 pub never : {A : Type 0} (r : Refusal) (a : A) → _≡_ {A = Outcome A} (refused r) (done a) → ⊥
@@ -51,6 +52,24 @@ finds-number (suc w) p s = simp (run-bind, finds-number w (p + 1) s)
 pub run-number : {B : Type 0} (w p : ℕ) (f : ℕ → Reading B) (s : List ℕ) → run (number w p >>= f) s ≡ run (f (le w s p)) s
 unfolding then
 run-number w p f s = run-bind (number w p) f s ∙ ap (λ o. then o (λ n. run (f n) s)) (finds-number w p s)
+
+-- where there is room, and where not; where a test holds, and where not
+module _ {A : Type 0} (r : ℕ → Refusal) (k : Reading A) (s : List ℕ) where
+  pub run-room : (e : ℕ) → e ≤ length s → run (room e r k) s ≡ run k s
+  unfolding run
+  run-room e h = rw (le-leb _ _ h)
+
+  pub run-past : (e : ℕ) → length s < e → run (room e r k) s ≡ refused (r (length s))
+  unfolding run
+  run-past e h = rw (lt-leb _ _ h)
+
+  pub run-holds : (t : Bool) → t ≡ true → run (demand t r k) s ≡ run k s
+  unfolding demand
+  run-holds t h = rw h
+
+  pub run-fails : (t : Bool) → t ≡ false → run (demand t r k) s ≡ refused (r (length s))
+  unfolding run demand
+  run-fails t h = rw h
 
 -- A loop over `many` keeps the number that is left and the place of the next one. Its invariant says that
 -- what is left decides: the verdict of the rest is that of the whole, and the rest laid from here is the whole.

@@ -1,0 +1,136 @@
+// The length checks and region ends, and the refusals that they give.
+ghost use mathlib.Core.Path.{_≡_};
+ghost use lib.ListN.{length};
+ghost use Rattle.blob.specs.Reading.{run, got, verdict};
+ghost use Rattle.format.specs.Refuse as refuse;
+ghost use Rattle.format.specs.Region as region;
+use blob::Refusal;
+use blob::Verdict;
+use format::EndRead;
+
+// So many bytes are needed from a place on.
+pub fn truncated(b: &[u8], field: u8, at: usize, needed: usize) -> Refusal
+    ensures { λ r. ⌜ r ≡ refuse.truncated field at needed (length (now (b .entry))) ⌝ }
+{
+    Refusal {
+        code: 1,
+        field,
+        place: at as u64,
+        first: needed as u64,
+        second: blob::have(b, at),
+    }
+}
+
+// A structure starts with another signature.
+pub fn wrong_signature(at: usize, expected: u32, found: u32) -> Refusal
+    ensures { λ r. ⌜ r ≡ refuse.wrong-signature at expected found 0 ⌝ }
+{
+    Refusal {
+        code: 2,
+        field: 0,
+        place: at as u64,
+        first: expected as u64,
+        second: found as u64,
+    }
+}
+
+// A size is too small, or runs past the blob.
+pub fn size_out(field: u8, at: usize, size: u32) -> Refusal
+    ensures { λ r. ⌜ r ≡ refuse.size-out field at size 0 ⌝ }
+{
+    Refusal {
+        code: 3,
+        field,
+        place: at as u64,
+        first: size as u64,
+        second: 0,
+    }
+}
+
+// A count is refused.
+pub fn count_out(field: u8, at: usize, count: u32) -> Refusal
+    ensures { λ r. ⌜ r ≡ refuse.count-out field at count 0 ⌝ }
+{
+    Refusal {
+        code: 4,
+        field,
+        place: at as u64,
+        first: count as u64,
+        second: 0,
+    }
+}
+
+// A place is past the blob.
+pub fn offset_out(b: &[u8], field: u8, at: usize) -> Refusal
+    ensures { λ r. ⌜ r ≡ refuse.offset-out field at (length (now (b .entry))) ⌝ }
+{
+    Refusal {
+        code: 5,
+        field,
+        place: at as u64,
+        first: b.len() as u64,
+        second: 0,
+    }
+}
+
+// A name is no UTF-16.
+pub fn not_utf16(field: u8, at: usize) -> Refusal
+    ensures { λ r. ⌜ r ≡ refuse.not-utf16 field at 0 ⌝ }
+{
+    Refusal {
+        code: 6,
+        field,
+        place: at as u64,
+        first: 0,
+        second: 0,
+    }
+}
+
+// Whether a place is not past the blob.
+pub fn within(b: &[u8], field: u8, at: usize) -> Verdict
+    ensures { λ r. ⌜ r ≡ verdict (run (refuse.within field at (got (tt {0}))) (now (b .entry))) ⌝ }
+{
+    if b.len() < at {
+        return Verdict::Refused(offset_out(b, field, at));
+    }
+    Verdict::Fine
+}
+
+// Whether so many bytes from a place on are wholly in the blob. No sum is made of the two numbers, so none can wrap.
+pub fn whole(b: &[u8], field: u8, at: usize, needed: usize) -> Verdict
+    ensures { λ r. ⌜ r ≡ verdict (run (refuse.whole field at needed (got (tt {0}))) (now (b .entry))) ⌝ }
+{
+    if b.len() < at {
+        return Verdict::Refused(truncated(b, field, at, needed));
+    }
+    if b.len() - at < needed {
+        return Verdict::Refused(truncated(b, field, at, needed));
+    }
+    Verdict::Fine
+}
+
+// Where a structure of some size ends, which has at least so many bytes.
+pub fn bounded(b: &[u8], field: u8, at: usize, size: u32, least: u32) -> EndRead
+    ensures { λ r. ⌜ r ≡ region.endRead (λ e. e) (run (region.bounded field at size least) (now (b .entry))) ⌝ }
+{
+    if size < least {
+        return EndRead::Refused(size_out(field, at, size));
+    }
+    if b.len() < at {
+        return EndRead::Refused(size_out(field, at, size));
+    }
+    if b.len() - at < size as usize {
+        return EndRead::Refused(size_out(field, at, size));
+    }
+    EndRead::End(at + size as usize)
+}
+
+// Where a structure's region ends: at the blob's end where its size is 0.
+pub fn region_end(b: &[u8], field: u8, at: usize, size: u32, least: u32) -> EndRead
+    ensures { λ r. ⌜ r ≡ region.endRead (region.end (length (now (b .entry)))) (run (region.regionAt field at size least) (now (b .entry))) ⌝ }
+{
+    if size == 0 {
+        return EndRead::End(b.len());
+    }
+    bounded(b, field, at, size, least)
+}

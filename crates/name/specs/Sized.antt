@@ -1,0 +1,67 @@
+-- What each test of a sized name decides, in the order of the tests.
+use Prim.Native.Nat.{ℕ, zero, suc, _+_, _-_, _/_, _%_, _≤_, _<_}
+use mathlib.Core.Path.{_≡_, refl, ap, sym, _∙_}
+use mathlib.Core.List.{List}
+use mathlib.Core.Bool.{false}
+use native.Mathlib.Omega.{arith}
+use lib.Dec.{leb, eqb, eqb·suc-zero}
+use lib.ListN.{length}
+use borrow.Author.Tests.{le-leb, lt-leb, eq-eqb, ne-eqb}
+use Rattle.blob.specs.declared.Refusal.{Refusal}
+use Rattle.blob.specs.Le.{le}
+use Rattle.blob.specs.Laws.{run-number, run-room, run-past, run-holds, run-fails}
+use Rattle.blob.specs.Reading.{Reading, Outcome, done, refused, demand, run}
+use Rattle.format.specs.Refuse.{truncated, size-out, offset-out, not-utf16, whole}
+use Rattle.format.specs.Name.{text, sized, nameAt, nameRead}
+use Rattle.format.specs.declared.Name.{Name}
+use Rattle.format.specs.declared.NameRead.{NameRead}
+use Rattle.format.specs.declared.NameRead.the-variants as read
+use Rattle.name.specs.Text.{present}
+
+-- a name whose offset is not 0 is there
+named : (f o : ℕ) (s : List ℕ) → 0 < o → nameRead o (run (nameAt f o) s) ≡ present (run (sized f o) s)
+unfolding nameAt
+named f zero s h = absurd (omega arith)
+named f (suc o) s h = rw (eqb·suc-zero o) (go (run (sized f (suc o)) s))
+  where
+    go : (x : Outcome Name) → nameRead (suc o) x ≡ present x
+    go (done n) = refl
+    go (refused r) = refl
+
+module _ (f o : ℕ) (s : List ℕ) (h : 0 < o) where
+  pub found : (r : NameRead) (p : Reading Name) → r ≡ present (run p s) → run (sized f o) s ≡ run p s → r ≡ nameRead o (run (nameAt f o) s)
+  found r p a e = a ∙ sym (named f o s h ∙ ap present e)
+
+  pub refuses : (x y : Refusal) → x ≡ y → run (sized f o) s ≡ refused y → read.Refused x ≡ nameRead o (run (nameAt f o) s)
+  refuses x y a e = ap read.Refused a ∙ sym (named f o s h ∙ ap present e)
+
+module _ (f o : ℕ) (s : List ℕ) where
+  pub sized-past : length s < o → run (sized f o) s ≡ refused (offset-out f o (length s))
+  unfolding sized
+  sized-past h = run-past _ _ _ _ h
+
+  pub sized-cut : o ≤ length s → length s < o + 4 → run (sized f o) s ≡ refused (truncated f o 4 (length s))
+  unfolding sized
+  sized-cut h g = run-room _ _ _ _ h ∙ run-past _ _ _ _ g
+
+  module _ (size : ℕ) (e : size ≡ le 4 s o) (h : o + 4 ≤ length s) where
+    -- what the size word is tested for
+    behind :
+        run (sized f o) s
+        ≡ run (demand (leb 4 size) (size-out f o size) (whole f o size (demand (eqb (size % 2) 0) (not-utf16 f o) (text f o ((size - 4) / 2) (o + 4) 0 false)))) s
+    unfolding sized
+    behind = run-room _ _ _ _ (omega arith) ∙ run-room _ _ _ _ h ∙ run-number _ _ _ _ ∙ rw e
+
+    pub sized-small : size < 4 → run (sized f o) s ≡ refused (size-out f o size 0)
+    sized-small g = behind ∙ run-fails _ _ _ _ (lt-leb _ _ g)
+
+    module _ (g : 4 ≤ size) where
+      pub sized-short : length s < o + size → run (sized f o) s ≡ refused (truncated f o size (length s))
+      sized-short w = behind ∙ run-holds _ _ _ _ (le-leb _ _ g) ∙ run-past _ _ _ _ w
+
+      module _ (w : o + size ≤ length s) where
+        pub sized-odd : (size % 2 ≡ 0 → ⊥) → run (sized f o) s ≡ refused (not-utf16 f o 0)
+        sized-odd t = behind ∙ run-holds _ _ _ _ (le-leb _ _ g) ∙ run-room _ _ _ _ w ∙ run-fails _ _ _ _ (ne-eqb _ _ t)
+
+        pub sized-text : size % 2 ≡ 0 → run (sized f o) s ≡ run (text f o ((size - 4) / 2) (o + 4) 0 false) s
+        sized-text t = behind ∙ run-holds _ _ _ _ (le-leb _ _ g) ∙ run-room _ _ _ _ w ∙ run-holds _ _ _ _ (eq-eqb _ _ t)

@@ -1,0 +1,115 @@
+-- What one unit makes of the rest of a text, a law for each kind of unit.
+use Prim.Native.Nat.{ℕ, zero, suc, _+_, _-_, _≤_, _<_}
+use mathlib.Core.Path.{_≡_, refl, ap, sym, _∙_}
+use mathlib.Core.List.{List}
+use mathlib.Core.Bool.{Bool, true, false, not, _&&_}
+use native.Mathlib.Omega.{arith}
+use lib.Dec.{leb, ltb, eqb, leb·suc-suc}
+use borrow.Author.Tests.{le-leb, lt-leb, lt-ltb, le-ltb, eq-eqb, ne-eqb, ltb-true, ltb-false}
+use Rattle.blob.specs.Le.{le}
+use Rattle.blob.specs.Laws.{run-number}
+use Rattle.blob.specs.Reading.{Outcome, stop, done, refused, choose, demand, run}
+use Rattle.format.specs.Refuse.{not-utf16}
+use Rattle.format.specs.Name.{high, low, text}
+use Rattle.format.specs.declared.Name.{Name}
+use Rattle.format.specs.declared.NameRead.{NameRead}
+use Rattle.format.specs.declared.NameRead.the-variants as read
+
+-- what the code answers for a name that is there
+abbrev pub present : Outcome Name → NameRead
+present (done n) = read.Present n
+present (refused r) = read.Refused r
+
+-- whether a surrogate is a high one with a low one behind it
+abbrev pub pairs : List ℕ → ℕ → ℕ → Bool
+pairs s at left = ltb (le 2 s at) 0xDC00 && (ltb 1 left && low (le 2 s (at + 2)))
+
+-- a unit within two bounds, below the first, and past the second
+module _ (a b u : ℕ) where
+  pub between : a ≤ u → u < b → (leb a u && ltb u b) ≡ true
+  between h g = rw (le-leb _ _ h, lt-ltb _ _ g)
+
+  pub below : u < a → (leb a u && ltb u b) ≡ false
+  below h = rw (lt-leb _ _ h)
+
+  pub above : a ≤ b → b ≤ u → (leb a u && ltb u b) ≡ false
+  above g h = let k : a ≤ u = omega arith in rw (le-leb _ _ k, le-ltb _ _ h)
+
+-- how many are left, as a successor
+more : {left : ℕ} → 0 < left → left ≡ suc (left - 1)
+more h = omega arith
+
+nonzero : {u : ℕ} → 0 < u → eqb u 0 ≡ false
+nonzero {u} h = ne-eqb u 0 (λ q. omega arith)
+
+module _ (f o : ℕ) (s : List ℕ) (left at k : ℕ) where
+  pub text-none : (k' : ℕ) → k' ≡ k → left ≤ 0 → run (text f o left at k false) s ≡ done (record { start = o + 4; units = k'; ended = false })
+  unfolding text run demand
+  text-none k' g h = let e : left ≡ 0 = omega arith in rw (e, g)
+
+  pub text-zero : 0 < left → le 2 s at ≡ 0 → run (text f o left at k false) s ≡ done (record { start = o + 4; units = k; ended = true })
+  unfolding text run
+  text-zero h z = ap (λ n. run (text f o n at k false) s) (more h) ∙ rw (run-number, eq-eqb _ _ z)
+
+  go : (left' k' : ℕ) → left ≡ suc left' → k' ≡ k + 1 → 0 < le 2 s at → low (le 2 s at) ≡ false → high (le 2 s at) ≡ false
+      → run (text f o left at k false) s ≡ run (text f o left' (at + 2) k' false) s
+  unfolding text demand
+  go left' k' e g z l h = rw (e, g, run-number, nonzero z, l, h)
+
+  pub text-below : (left' k' : ℕ) → left ≡ suc left' → k' ≡ k + 1 → 0 < le 2 s at → le 2 s at < 0xD800
+      → run (text f o left at k false) s ≡ run (text f o left' (at + 2) k' false) s
+  text-below left' k' e g z h = go left' k' e g z (below 0xDC00 _ (le 2 s at) (omega arith)) (below _ _ _ h)
+
+  pub text-above : (left' k' : ℕ) → left ≡ suc left' → k' ≡ k + 1 → 0xE000 ≤ le 2 s at
+      → run (text f o left at k false) s ≡ run (text f o left' (at + 2) k' false) s
+  text-above left' k' e g h = go left' k' e g (omega arith) (above 0xDC00 _ _ (omega arith) h) (above 0xD800 0xDC00 (le 2 s at) (omega arith) (omega arith))
+
+-- what follows a surrogate: the text behind the pair, or the refusal
+unfoldable after : (f o : ℕ) → List ℕ → (left at k : ℕ) → Bool → Outcome Name
+after f o s left at k p = choose p (run (text f o left at k false) s) (refused (not-utf16 f o 0))
+
+module _ (f o : ℕ) (s : List ℕ) where
+  low-waits : (left at k : ℕ) → run (text f o left at k true) s ≡ after f o s (left - 1) (at + 2) (k + 1) (ltb 0 left && low (le 2 s at))
+  unfolding text demand after run
+  low-waits zero at k = refl
+  low-waits (suc left) at k =
+      let e : suc left - 1 ≡ left = omega arith in
+      rw (run-number, e, lt-ltb 0 (suc left) (omega arith)) (go (low (le 2 s at)))
+    where
+      go : (t : Bool) → run (choose t (text f o left (at + 2) (k + 1) false) (stop (not-utf16 f o))) s ≡ choose t (run (text f o left (at + 2) (k + 1) false) s) (refused (not-utf16 f o 0))
+      go true = refl
+      go false = refl
+
+  text-surrogate : (left at k : ℕ) → 0 < left → 0xD800 ≤ le 2 s at → le 2 s at < 0xE000
+      → run (text f o left at k false) s ≡ after f o s (left - 2) (at + 4) (k + 2) (pairs s at left)
+  unfolding text demand run after
+  text-surrogate zero at k h d g = absurd (omega arith)
+  text-surrogate (suc left) at k h d g = go (ltb (le 2 s at) 0xDC00) refl
+    where
+      go : (t : Bool) → ltb (le 2 s at) 0xDC00 ≡ t
+          → run (text f o (suc left) at k false) s ≡ after f o s (suc left - 2) (at + 4) (k + 2) (t && (ltb 1 (suc left) && low (le 2 s (at + 2))))
+      go true e =
+          let h : le 2 s at < 0xDC00 = ltb-true _ _ e in
+          let l : suc left - 2 ≡ left - 1 = omega arith in
+          let p : (at + 2) + 2 ≡ at + 4 = omega arith in
+          let q : (k + 1) + 1 ≡ k + 2 = omega arith in
+          rw (run-number, nonzero {u = le 2 s at} (omega arith), below _ _ _ h, between _ _ _ d h, low-waits left (at + 2) (k + 1), l, p, q, leb·suc-suc 1 left)
+      go false e = rw (run-number, nonzero {u = le 2 s at} (omega arith), between _ _ _ (ltb-false _ _ e) g)
+
+  module _ (left at k : ℕ) (h : 0 < left) (d : 0xD800 ≤ le 2 s at) (g : le 2 s at < 0xE000) where
+    pub text-pair : (k' : ℕ) → k' ≡ k + 2 → pairs s at left ≡ true → run (text f o left at k false) s ≡ run (text f o (left - 2) (at + 4) k' false) s
+    unfolding after
+    text-pair k' e p = text-surrogate left at k h d g ∙ rw (p, e)
+
+    pub text-unpaired : pairs s at left ≡ false → run (text f o left at k false) s ≡ refused (not-utf16 f o 0)
+    unfolding after
+    text-unpaired p = text-surrogate left at k h d g ∙ rw p
+
+-- a pair is two units
+pub pairs-two : (s : List ℕ) (at left : ℕ) → pairs s at left ≡ true → 1 < left
+pairs-two s at left p = ltb-true _ _ (second (ltb (le 2 s at) 0xDC00) _ _ p)
+  where
+    second : (a b c : Bool) → (a && (b && c)) ≡ true → b ≡ true
+    second a true c p = refl
+    second true false c p = p
+    second false false c p = p

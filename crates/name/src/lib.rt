@@ -1,0 +1,94 @@
+// Sized names.
+ghost use mathlib.Core.Path.{_≡_};
+ghost use mathlib.Core.Bool.{false};
+ghost use Prim.Native.Nat.{_+_, _*_, _≤_, _<_};
+ghost use lib.ListN.{length};
+ghost use Rattle.blob.specs.Le.{le};
+ghost use Rattle.blob.specs.Reading.{run};
+ghost use Rattle.format.specs.Name.{text, nameAt, nameRead};
+ghost use Rattle.name.specs.Text.{present, pairs};
+use format::Name;
+use format::NameRead;
+
+// Whether a surrogate is a high one with a low one behind it; so many units are left, the surrogate among them.
+fn paired(b: &[u8], at: usize, left: u32, unit: u32) -> bool
+    requires { ⌜ (at + 2 * left ≤ length (now b)) × (unit ≡ le 2 (now b) at) ⌝ }
+    ensures { λ r. ⌜ r ≡ pairs (now (b .entry)) at left ⌝ }
+{
+    if 0xDC00 <= unit {
+        return false;
+    }
+    if left <= 1 {
+        return false;
+    }
+    let next = blob::half(b, at + 2);
+    if next < 0xDC00 {
+        return false;
+    }
+    next < 0xE000
+}
+
+// The text of n units behind the size word of a name.
+fn units(b: &[u8], field: u8, offset: u32, n: u32) -> NameRead
+    requires { ⌜ (offset + 4 + 2 * n ≤ length (now b)) × (length (now b) ≤ 16777216) ⌝ }
+    ensures { λ r. ⌜ r ≡ present (run (text field offset n (offset + 4) 0 false) (now (b .entry))) ⌝ }
+{
+    let start = offset + 4;
+    let mut at = start as usize;
+    let mut left = n;
+    while 0 < left {
+        let unit = blob::half(b, at);
+        if unit < 0xD800 {
+            if unit == 0 {
+                return NameRead::Present(Name {
+                    start,
+                    units: n - left,
+                    ended: true,
+                });
+            }
+        } else if unit < 0xE000 {
+            if paired(b, at, left, unit) {
+                at += 4;
+                left -= 2;
+                continue;
+            }
+            return NameRead::Refused(bounds::not_utf16(field, offset as usize));
+        }
+        at += 2;
+        left -= 1;
+    }
+    NameRead::Present(Name {
+        start,
+        units: n,
+        ended: false,
+    })
+}
+
+// The name at an offset.
+pub fn name_at(b: &[u8], field: u8, offset: u32) -> NameRead
+    requires { ⌜ length (now b) ≤ 16777216 ⌝ }
+    ensures { λ r. ⌜ r ≡ nameRead offset (run (nameAt field offset) (now (b .entry))) ⌝ }
+{
+    if offset == 0 {
+        return NameRead::Absent;
+    }
+    let at = offset as usize;
+    if b.len() < at {
+        return NameRead::Refused(bounds::offset_out(b, field, at));
+    }
+    if b.len() - at < 4 {
+        return NameRead::Refused(bounds::truncated(b, field, at, 4));
+    }
+    let size = blob::word(b, at);
+    if size < 4 {
+        return NameRead::Refused(bounds::size_out(field, at, size));
+    }
+    let needed = size as usize;
+    if b.len() - at < needed {
+        return NameRead::Refused(bounds::truncated(b, field, at, needed));
+    }
+    if size % 2 != 0 {
+        return NameRead::Refused(bounds::not_utf16(field, at));
+    }
+    units(b, field, offset, (size - 4) / 2)
+}
