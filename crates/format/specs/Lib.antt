@@ -7,6 +7,7 @@ pub mod Definition
 pub mod Event
 pub mod Template
 pub mod Map
+pub mod Needs
 pub mod Provider
 pub mod Crim
 pub mod Lists

@@ -130,6 +130,12 @@ pub enum MapRead {
     Refused(Refusal),
 }
 
+// What checking a MAPS finds: how many map entries its maps have, where it stops rising at 65,537.
+pub enum MapsRead {
+    Entries(u32),
+    Refused(Refusal),
+}
+
 // An entry of a VMAP.
 pub struct MapEntry {
     pub identifier: u32,
