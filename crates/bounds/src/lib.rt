@@ -1,5 +1,7 @@
 // The length checks and region ends, and the refusals that they give.
 ghost use mathlib.Core.Path.{_≡_};
+ghost use Prim.Native.Nat.{_+_};
+ghost use lib.Dec.{leb};
 ghost use lib.ListN.{length};
 ghost use Rattle.blob.specs.Reading.{run, got, verdict};
 ghost use Rattle.format.specs.Refuse as refuse;
@@ -86,43 +88,51 @@ pub fn not_utf16(field: u8, at: usize) -> Refusal
     }
 }
 
+// Whether so many bytes from a place on are in the blob. No sum is made of the two numbers, so none can wrap.
+fn has_room(b: &[u8], at: usize, needed: usize) -> bool
+    ensures { λ r. ⌜ r ≡ leb (at + needed) (length (now (b .entry))) ⌝ }
+{
+    if b.len() < at {
+        return false;
+    }
+    if b.len() - at < needed {
+        return false;
+    }
+    true
+}
+
 // Whether a place is not past the blob.
 pub fn within(b: &[u8], field: u8, at: usize) -> Verdict
     ensures { λ r. ⌜ r ≡ verdict (run (refuse.within field at (got (tt {0}))) (now (b .entry))) ⌝ }
 {
-    if b.len() < at {
-        return Verdict::Refused(offset_out(b, field, at));
+    if at <= b.len() {
+        return Verdict::Fine;
     }
-    Verdict::Fine
+    Verdict::Refused(offset_out(b, field, at))
 }
 
-// Whether so many bytes from a place on are wholly in the blob. No sum is made of the two numbers, so none can wrap.
+// Whether so many bytes from a place on are wholly in the blob.
 pub fn whole(b: &[u8], field: u8, at: usize, needed: usize) -> Verdict
     ensures { λ r. ⌜ r ≡ verdict (run (refuse.whole field at needed (got (tt {0}))) (now (b .entry))) ⌝ }
 {
-    if b.len() < at {
-        return Verdict::Refused(truncated(b, field, at, needed));
+    if has_room(b, at, needed) {
+        return Verdict::Fine;
     }
-    if b.len() - at < needed {
-        return Verdict::Refused(truncated(b, field, at, needed));
-    }
-    Verdict::Fine
+    Verdict::Refused(truncated(b, field, at, needed))
 }
 
-// Where a structure of some size ends, which has at least so many bytes.
+// Where a structure ends whose size, of at least so many bytes, is not 0.
 pub fn bounded(b: &[u8], field: u8, at: usize, size: u32, least: u32) -> EndRead
     ensures { λ r. ⌜ r ≡ region.endRead (λ e. e) (run (region.bounded field at size least) (now (b .entry))) ⌝ }
 {
-    if size < least {
-        return EndRead::Refused(size_out(field, at, size));
+    let bytes = size as usize;
+    if least <= size {
+        if has_room(b, at, bytes) {
+            let end = at + bytes;
+            return EndRead::End(end);
+        }
     }
-    if b.len() < at {
-        return EndRead::Refused(size_out(field, at, size));
-    }
-    if b.len() - at < size as usize {
-        return EndRead::Refused(size_out(field, at, size));
-    }
-    EndRead::End(at + size as usize)
+    EndRead::Refused(size_out(field, at, size))
 }
 
 // Where a structure's region ends: at the blob's end where its size is 0.

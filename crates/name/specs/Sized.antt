@@ -28,6 +28,7 @@ named f (suc o) s h = rw (eqb·suc-zero o) (go (run (sized f (suc o)) s))
     go (done n) = refl
     go (refused r) = refl
 
+-- what is answered where the offset is not 0
 module _ (f o : ℕ) (s : List ℕ) (h : 0 < o) where
   pub found : (r : NameRead) (p : Reading Name) → r ≡ present (run p s) → run (sized f o) s ≡ run p s → r ≡ nameRead o (run (nameAt f o) s)
   found r p a e = a ∙ sym (named f o s h ∙ ap present e)
@@ -45,7 +46,7 @@ module _ (f o : ℕ) (s : List ℕ) where
   sized-cut h g = run-room _ _ _ _ h ∙ run-past _ _ _ _ g
 
   module _ (size : ℕ) (e : size ≡ le 4 s o) (h : o + 4 ≤ length s) where
-    -- what the size word is tested for
+    -- where the size word is there, its tests are left
     behind :
         run (sized f o) s
         ≡ run (demand (leb 4 size) (size-out f o size) (whole f o size (demand (eqb (size % 2) 0) (not-utf16 f o) (text f o ((size - 4) / 2) (o + 4) 0 false)))) s

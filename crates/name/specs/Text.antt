@@ -1,8 +1,8 @@
 -- What one unit makes of the rest of a text, a law for each kind of unit.
 use Prim.Native.Nat.{ℕ, zero, suc, _+_, _-_, _≤_, _<_}
-use mathlib.Core.Path.{_≡_, refl, ap, sym, _∙_}
+use mathlib.Core.Path.{_≡_, refl, ap, _∙_}
 use mathlib.Core.List.{List}
-use mathlib.Core.Bool.{Bool, true, false, not, _&&_}
+use mathlib.Core.Bool.{Bool, true, false, _&&_}
 use native.Mathlib.Omega.{arith}
 use lib.Dec.{leb, ltb, eqb, leb·suc-suc}
 use borrow.Author.Tests.{le-leb, lt-leb, lt-ltb, le-ltb, eq-eqb, ne-eqb, ltb-true, ltb-false}
@@ -20,7 +20,7 @@ abbrev pub present : Outcome Name → NameRead
 present (done n) = read.Present n
 present (refused r) = read.Refused r
 
--- whether a surrogate is a high one with a low one behind it
+-- whether what is a surrogate is a high one with a low one behind it
 abbrev pub pairs : List ℕ → ℕ → ℕ → Bool
 pairs s at left = ltb (le 2 s at) 0xDC00 && (ltb 1 left && low (le 2 s (at + 2)))
 
@@ -39,6 +39,7 @@ module _ (a b u : ℕ) where
 more : {left : ℕ} → 0 < left → left ≡ suc (left - 1)
 more h = omega arith
 
+-- a unit that is not 0
 nonzero : {u : ℕ} → 0 < u → eqb u 0 ≡ false
 nonzero {u} h = ne-eqb u 0 (λ q. omega arith)
 
@@ -51,24 +52,26 @@ module _ (f o : ℕ) (s : List ℕ) (left at k : ℕ) where
   unfolding text run
   text-zero h z = ap (λ n. run (text f o n at k false) s) (more h) ∙ rw (run-number, eq-eqb _ _ z)
 
-  go : (left' k' : ℕ) → left ≡ suc left' → k' ≡ k + 1 → 0 < le 2 s at → low (le 2 s at) ≡ false → high (le 2 s at) ≡ false
+  -- a unit that is not 0 and no surrogate
+  plain : (left' k' : ℕ) → left ≡ suc left' → k' ≡ k + 1 → 0 < le 2 s at → low (le 2 s at) ≡ false → high (le 2 s at) ≡ false
       → run (text f o left at k false) s ≡ run (text f o left' (at + 2) k' false) s
   unfolding text demand
-  go left' k' e g z l h = rw (e, g, run-number, nonzero z, l, h)
+  plain left' k' e g z l h = rw (e, g, run-number, nonzero z, l, h)
 
   pub text-below : (left' k' : ℕ) → left ≡ suc left' → k' ≡ k + 1 → 0 < le 2 s at → le 2 s at < 0xD800
       → run (text f o left at k false) s ≡ run (text f o left' (at + 2) k' false) s
-  text-below left' k' e g z h = go left' k' e g z (below 0xDC00 _ (le 2 s at) (omega arith)) (below _ _ _ h)
+  text-below left' k' e g z h = plain left' k' e g z (below 0xDC00 _ (le 2 s at) (omega arith)) (below _ _ _ h)
 
   pub text-above : (left' k' : ℕ) → left ≡ suc left' → k' ≡ k + 1 → 0xE000 ≤ le 2 s at
       → run (text f o left at k false) s ≡ run (text f o left' (at + 2) k' false) s
-  text-above left' k' e g h = go left' k' e g (omega arith) (above 0xDC00 _ _ (omega arith) h) (above 0xD800 0xDC00 (le 2 s at) (omega arith) (omega arith))
+  text-above left' k' e g h = plain left' k' e g (omega arith) (above 0xDC00 _ _ (omega arith) h) (above 0xD800 0xDC00 (le 2 s at) (omega arith) (omega arith))
 
 -- what follows a surrogate: the text behind the pair, or the refusal
 unfoldable after : (f o : ℕ) → List ℕ → (left at k : ℕ) → Bool → Outcome Name
 after f o s left at k p = choose p (run (text f o left at k false) s) (refused (not-utf16 f o 0))
 
 module _ (f o : ℕ) (s : List ℕ) where
+  -- behind a high surrogate
   low-waits : (left at k : ℕ) → run (text f o left at k true) s ≡ after f o s (left - 1) (at + 2) (k + 1) (ltb 0 left && low (le 2 s at))
   unfolding text demand after run
   low-waits zero at k = refl

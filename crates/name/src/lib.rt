@@ -1,7 +1,7 @@
-// Sized names.
+// Sized names: the tests of the size word, then one pass over the text.
 ghost use mathlib.Core.Path.{_≡_};
 ghost use mathlib.Core.Bool.{false};
-ghost use Prim.Native.Nat.{_+_, _*_, _≤_, _<_};
+ghost use Prim.Native.Nat.{_+_, _*_, _≤_};
 ghost use lib.ListN.{length};
 ghost use Rattle.blob.specs.Le.{le};
 ghost use Rattle.blob.specs.Reading.{run};
@@ -28,7 +28,8 @@ fn paired(b: &[u8], at: usize, left: u32, unit: u32) -> bool
     next < 0xE000
 }
 
-// The text of n units behind the size word of a name.
+// The text of n units behind the size word of a name. An ordinary unit takes two comparisons; a high surrogate takes the unit behind
+// it along, so that none waits from one turn to the next.
 fn units(b: &[u8], field: u8, offset: u32, n: u32) -> NameRead
     requires { ⌜ (offset + 4 + 2 * n ≤ length (now b)) × (length (now b) ≤ 16777216) ⌝ }
     ensures { λ r. ⌜ r ≡ present (run (text field offset n (offset + 4) 0 false) (now (b .entry))) ⌝ }
@@ -40,9 +41,10 @@ fn units(b: &[u8], field: u8, offset: u32, n: u32) -> NameRead
         let unit = blob::half(b, at);
         if unit < 0xD800 {
             if unit == 0 {
+                let passed = n - left;
                 return NameRead::Present(Name {
                     start,
-                    units: n - left,
+                    units: passed,
                     ended: true,
                 });
             }
@@ -64,7 +66,7 @@ fn units(b: &[u8], field: u8, offset: u32, n: u32) -> NameRead
     })
 }
 
-// The name at an offset.
+// The name at an offset. The callers test the blob's length first, so that a text's start fits 32 bits.
 pub fn name_at(b: &[u8], field: u8, offset: u32) -> NameRead
     requires { ⌜ length (now b) ≤ 16777216 ⌝ }
     ensures { λ r. ⌜ r ≡ nameRead offset (run (nameAt field offset) (now (b .entry))) ⌝ }
@@ -76,7 +78,8 @@ pub fn name_at(b: &[u8], field: u8, offset: u32) -> NameRead
     if b.len() < at {
         return NameRead::Refused(bounds::offset_out(b, field, at));
     }
-    if b.len() - at < 4 {
+    let room = b.len() - at;
+    if room < 4 {
         return NameRead::Refused(bounds::truncated(b, field, at, 4));
     }
     let size = blob::word(b, at);
@@ -84,7 +87,7 @@ pub fn name_at(b: &[u8], field: u8, offset: u32) -> NameRead
         return NameRead::Refused(bounds::size_out(field, at, size));
     }
     let needed = size as usize;
-    if b.len() - at < needed {
+    if room < needed {
         return NameRead::Refused(bounds::truncated(b, field, at, needed));
     }
     if size % 2 != 0 {

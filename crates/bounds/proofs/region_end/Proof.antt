@@ -1,6 +1,7 @@
+-- A size of 0 ends the region with the blob; any other is `bounded`.
 use borrow.Author.Needs.{needs}
 use borrow.Author.Tests.{eq-eqb, ne-eqb}
-use mathlib.Core.Path.{_≡_, refl, ap, _∙_}
+use mathlib.Core.Path.{_≡_, refl, _∙_}
 use mathlib.Core.List.{List}
 use Prim.Native.Nat.{ℕ}
 use Rattle.blob.specs.Reading.{Reading, Outcome, done, refused, got, run, then, _>>=_}

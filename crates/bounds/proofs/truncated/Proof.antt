@@ -1,3 +1,4 @@
+-- The refusal holds what `have` counts.
 use borrow.Author.Needs.{needs}
 use Rattle.bounds.proofs.truncated.Statement.{statement}
 use Rattle.bounds.proofs.truncated.Tie as tie

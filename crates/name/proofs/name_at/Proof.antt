@@ -1,6 +1,6 @@
+-- Each return cites the law of the test that led there.
 use native.Mathlib.Omega.{arith}
 use borrow.Author.Needs.{needs}
-use borrow.Author.Tests.{eq-eqb}
 use Rattle.blob.specs.Reading.{run}
 use Rattle.format.specs.Name.{nameAt}
 use Rattle.name.specs.Sized.{found, refuses, sized-past, sized-cut, sized-small, sized-short, sized-odd, sized-text}
@@ -17,8 +17,8 @@ offset-out-requires c κs = search needs
 returns-2 : tie.Need-returns-2
 returns-2 c = refuses _ _ _ (omega arith) _ _ (c .offset-out .ensures) (sized-past _ _ _ (omega arith))
 
-sub-if3 : tie.Need-sub-if3
-sub-if3 c = search needs
+sub-room : tie.Need-sub-room
+sub-room c = search needs
 
 truncated-requires : tie.Need-truncated-requires
 truncated-requires c κs = search needs
@@ -33,31 +33,38 @@ size-out-requires : tie.Need-size-out-requires
 size-out-requires c κs = search needs
 
 returns-4 : tie.Need-returns-4
-returns-4 c = refuses _ _ _ (omega arith) _ _ (c .size-out .ensures) (sized-small _ _ _ _ (c .before .before .word .ensures) (omega arith) (omega arith))
+returns-4 c =
+    let w = c .before .before in
+    refuses _ _ _ (omega arith) _ _ (c .size-out .ensures) (sized-small _ _ _ _ (w .word .ensures) (omega arith) (omega arith))
 
 cast-needed : tie.Need-cast-needed
 cast-needed c = search needs
-
-sub-if5 : tie.Need-sub-if5
-sub-if5 c = search needs
 
 truncated-requires-2 : tie.Need-truncated-requires-2
 truncated-requires-2 c κs = search needs
 
 returns-5 : tie.Need-returns-5
-returns-5 c = refuses _ _ _ (omega arith) _ _ (c .truncated2 .ensures) (sized-short _ _ _ _ (c .before .before .before .word .ensures) (omega arith) (omega arith) (omega arith))
+returns-5 c =
+    let w = c .before .before .before in
+    refuses _ _ _ (omega arith) _ _ (c .truncated2 .ensures) (sized-short _ _ _ _ (w .word .ensures) (omega arith) (omega arith) (omega arith))
 
 not-utf16-requires : tie.Need-not-utf16-requires
 not-utf16-requires c κs = search needs
 
 returns-6 : tie.Need-returns-6
-returns-6 c = refuses _ _ _ (omega arith) _ _ (c .not-utf16 .ensures) (sized-odd _ _ _ _ (c .before .before .before .before .word .ensures) (omega arith) (omega arith) (omega arith) (c .before .if6 .taken))
+returns-6 c =
+    let w = c .before .before .before .before in
+    let odd = sized-odd _ _ _ _ (w .word .ensures) (omega arith) (omega arith) (omega arith) (c .before .if6 .taken) in
+    refuses _ _ _ (omega arith) _ _ (c .not-utf16 .ensures) odd
 
 units-requires : tie.Need-units-requires
 units-requires c κs = search needs
 
 returns-7 : tie.Need-returns-7
-returns-7 c = found _ _ _ (omega arith) _ _ (c .units .ensures) (sized-text _ _ _ _ (c .before .before .before .before .word .ensures) (omega arith) (omega arith) (omega arith) (c .before .if6 .left))
+returns-7 c =
+    let w = c .before .before .before .before in
+    let even = sized-text _ _ _ _ (w .word .ensures) (omega arith) (omega arith) (omega arith) (c .before .if6 .left) in
+    found _ _ _ (omega arith) _ _ (c .units .ensures) even
 
 pub name-at-spec : {M : Type 1} → statement M
 name-at-spec =
@@ -66,14 +73,13 @@ name-at-spec =
     returns
     offset-out-requires
     returns-2
-    sub-if3
+    sub-room
     truncated-requires
     returns-3
     word-requires
     size-out-requires
     returns-4
     cast-needed
-    sub-if5
     truncated-requires-2
     returns-5
     not-utf16-requires

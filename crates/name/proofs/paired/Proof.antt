@@ -1,3 +1,4 @@
+-- Each return rewrites the definition's test by the comparisons that led there.
 use borrow.Author.Needs.{needs}
 use borrow.Author.Tests.{lt-ltb, le-ltb, lt-leb, le-leb}
 use Rattle.name.proofs.paired.Statement.{statement}

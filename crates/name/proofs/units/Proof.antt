@@ -2,7 +2,7 @@
 use Prim.Native.Nat.{_+_, _-_, _*_, _≤_}
 use mathlib.Core.Bool.{false}
 use mathlib.Core.Logic.{⊎-elim}
-use mathlib.Core.Path.{_≡_, refl, ap, sym, _∙_}
+use mathlib.Core.Path.{_≡_, ap, sym, _∙_}
 use native.Mathlib.Nat.{sub-self}
 use native.Mathlib.Omega.{arith}
 use borrow.Author.Needs.{needs}
@@ -35,8 +35,8 @@ loop-holds c = (search needs, search needs, rw sub-self)
 half-requires : tie.Need-half-requires Inv-loop μ-loop
 half-requires c κs = search needs
 
-sub-t11 : tie.Need-sub-t11 Inv-loop μ-loop
-sub-t11 c = search needs
+sub-passed : tie.Need-sub-passed Inv-loop μ-loop
+sub-passed c = search needs
 
 returns : tie.Need-returns Inv-loop μ-loop
 returns c =
@@ -109,7 +109,7 @@ units-spec =
     cast-at
     loop-holds
     half-requires
-    sub-t11
+    sub-passed
     returns
     paired-requires
     add-at
