@@ -12,7 +12,7 @@ use Rattle.blob.specs.Le.{le}
 use Rattle.blob.specs.Laid.{laid, laid-more, flat}
 use Rattle.blob.specs.declared.Refusal.{Refusal}
 use Rattle.blob.specs.declared.Verdict.the-variants as verdicts
-use Rattle.blob.specs.Reading.{Reading, got, stop, room, byte, Outcome, done, refused, choose, demand, run, _>>=_, number, many, then, verdict, values}
+use Rattle.blob.specs.Reading.{Reading, got, stop, room, byte, Outcome, done, refused, choose, demand, run, _>>=_, number, many, then, answer, verdict, values}
 
 -- a refusal is never a value, and two values are equal where their outcomes are
 pub never : {A : Type 0} (r : Refusal) (a : A) → _≡_ {A = Outcome A} (refused r) (done a) → ⊥
@@ -20,6 +20,14 @@ never r a h = let z : _≡_ {A = ℕ} 0 1 = cc in omega arith
 
 pub same : {A : Type 0} (a b : A) → _≡_ {A = Outcome A} (done a) (done b) → a ≡ b
 same a b h = cc
+
+-- an answer for a value, and for a refusal
+module _ {A R : Type 0} (f : A → R) (g : Refusal → R) (o : Outcome A) where
+  pub answer-found : (a b : A) → a ≡ b → o ≡ done b → f a ≡ answer f g o
+  answer-found a b e h = ap f e ∙ ap (answer f g) (sym h)
+
+  pub answer-refused : (q r : Refusal) → q ≡ r → o ≡ refused r → g q ≡ answer f g o
+  answer-refused q r e h = ap g e ∙ ap (answer f g) (sym h)
 
 -- what an accepted outcome was made of
 pub then-done : {A B : Type 0} (o : Outcome A) (f : A → Outcome B) (b : B) → then o f ≡ done b → (a : A) × (o ≡ done a) × (f a ≡ done b)
@@ -49,9 +57,17 @@ unfolding run number le then _>>=_
 finds-number zero p s = refl
 finds-number (suc w) p s = simp (run-bind, finds-number w (p + 1) s)
 
-pub run-number : {B : Type 0} (w p : ℕ) (f : ℕ → Reading B) (s : List ℕ) → run (number w p >>= f) s ≡ run (f (le w s p)) s
+-- a reading that is known to find a value, or a refusal, and another behind it
+pub run-after : {A B : Type 0} (p : Reading A) (f : A → Reading B) (s : List ℕ) (a : A) → run p s ≡ done a → run (p >>= f) s ≡ run (f a) s
 unfolding then
-run-number w p f s = run-bind (number w p) f s ∙ ap (λ o. then o (λ n. run (f n) s)) (finds-number w p s)
+run-after p f s a e = run-bind p f s ∙ ap (λ o. then o (λ n. run (f n) s)) e
+
+pub run-stopped : {A B : Type 0} (p : Reading A) (f : A → Reading B) (s : List ℕ) (r : Refusal) → run p s ≡ refused r → run (p >>= f) s ≡ refused r
+unfolding then
+run-stopped p f s r e = run-bind p f s ∙ ap (λ o. then o (λ n. run (f n) s)) e
+
+pub run-number : {B : Type 0} (w p : ℕ) (f : ℕ → Reading B) (s : List ℕ) → run (number w p >>= f) s ≡ run (f (le w s p)) s
+run-number w p f s = run-after (number w p) f s _ (finds-number w p s)
 
 -- where there is room, and where not; where a test holds, and where not
 module _ {A : Type 0} (r : ℕ → Refusal) (k : Reading A) (s : List ℕ) where

@@ -76,9 +76,13 @@ unfoldable pub then : {A B : Type 0} → Outcome A → (A → Outcome B) → Out
 then (done a) f = f a
 then (refused r) f = refused r
 
+-- what a function answers, from what it answers for a value and for a refusal
+abbrev pub answer : {A R : Type 0} → (A → R) → (Refusal → R) → Outcome A → R
+answer f g (done a) = f a
+answer f g (refused r) = g r
+
 abbrev pub verdict : {A : Type 0} → Outcome A → Verdict
-verdict (done a) = verdicts.Fine
-verdict (refused r) = verdicts.Refused r
+verdict o = answer (λ a. verdicts.Fine) verdicts.Refused o
 
 -- the values of an accepted run
 abbrev pub values : {A : Type 0} → Outcome (List A) → List A

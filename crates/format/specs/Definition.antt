@@ -4,7 +4,7 @@ use Prim.Native.Nat.{ℕ, _+_}
 use mathlib.Core.List.{List, [], _∷_}
 use lib.ListN.{getD}
 use lib.Dec.{eqb}
-use Rattle.blob.specs.Reading.{Reading, got, Outcome, done, refused, choose, _>>=_, number, many}
+use Rattle.blob.specs.Reading.{Reading, got, Outcome, choose, _>>=_, number, many, answer}
 use Rattle.format.specs.Field.{CHAN-name, KEYW-data, LEVL-data, OPCO-data, TASK-data}
 use Rattle.format.specs.Name.{nameAt, absent}
 use Rattle.format.specs.Table.{CHAN, KEYW, TASK, tableEnd, header-length, stride}
@@ -78,8 +78,7 @@ definitionAt k at = fieldsAt k at >>= λ d. nameAt (name-field k) (d .offset) >>
 
 -- what the code answers for a definition
 abbrev pub definitionRead : Outcome Definition → DefinitionRead
-definitionRead (done d) = read.Definition d
-definitionRead (refused r) = read.Refused r
+definitionRead o = answer read.Definition read.Refused o
 
 -- records of one length stand in a row
 abbrev pub step : {A : Type 0} → ℕ → A → ℕ → ℕ

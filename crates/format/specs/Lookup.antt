@@ -6,7 +6,7 @@ use mathlib.Core.List.{List, [], _∷_, map}
 use lib.ListN.{length, getD, take, drop}
 use lib.Dec.{leb, ltb, eqb}
 use Rattle.blob.specs.declared.Refusal.{Refusal}
-use Rattle.blob.specs.Reading.{Outcome, done, refused, choose}
+use Rattle.blob.specs.Reading.{Outcome, done, refused, choose, answer}
 use Rattle.blob.specs.Laid.{laid, flat}
 use Rattle.format.specs.Table.{EVNT, TTBL}
 use Rattle.format.specs.Lists.{Entry, guidWords}
@@ -134,8 +134,7 @@ byKey words capacities counts key lent =
 
 -- what the code answers, and what the lent list then holds
 abbrev pub guidsFound : Outcome (List Entry) → GuidsFound
-guidsFound (done gs) = guids.Given (length gs)
-guidsFound (refused r) = guids.Refused r
+guidsFound o = answer (λ gs. guids.Given (length gs)) guids.Refused o
 
 abbrev pub guidsHeld : List ℕ → Outcome (List Entry) → List ℕ
 guidsHeld lent (done gs) = laid lent 0 (flat (λ g. g) gs)

@@ -4,7 +4,7 @@ use Prim.Native.Nat.{ℕ, zero, suc, _+_, _-_, _*_, min}
 use mathlib.Core.List.{List, [], _∷_}
 use lib.Dec.{leb, eqb}
 use Rattle.blob.specs.declared.Refusal.{Refusal}
-use Rattle.blob.specs.Reading.{Reading, got, Outcome, done, refused, room, choose, demand, _>>=_, number, many}
+use Rattle.blob.specs.Reading.{Reading, got, Outcome, room, choose, demand, _>>=_, number, many, answer}
 use Rattle.format.specs.Field.{MAPS-offsets-array, MAPS-map-offset, MAPS-map-signature, VMAP-size-field, VMAP-header, VMAP-size, VMAP-entries-array, VMAP-map-string, table-size}
 use Rattle.format.specs.Refuse.{whole, within, size-out}
 use Rattle.format.specs.Region.{Region, blob-end, until, end, inside, regionAt}
@@ -110,5 +110,4 @@ mapsAt at h =
 
 -- what the code answers for a map, its entries aside
 abbrev pub mapRead : Outcome Mapped → MapRead
-mapRead (done m) = read.Map (m .map)
-mapRead (refused r) = read.Refused r
+mapRead o = answer (λ m. read.Map (m .map)) read.Refused o

@@ -5,7 +5,7 @@ use Prim.Native.Nat.{ℕ, zero, suc, _+_, _-_, _/_, _%_}
 use mathlib.Core.Bool.{Bool, true, false, not, _&&_}
 use lib.Dec.{leb, ltb, eqb}
 use Rattle.blob.specs.declared.Refusal.{Refusal}
-use Rattle.blob.specs.Reading.{Reading, got, stop, Outcome, done, refused, choose, demand, _>>=_, number}
+use Rattle.blob.specs.Reading.{Reading, got, stop, Outcome, choose, demand, _>>=_, number, answer}
 use Rattle.format.specs.Refuse.{whole, within, size-out, not-utf16}
 use Rattle.format.specs.declared.Name.{Name}
 use Rattle.format.specs.declared.NameRead.{NameRead}
@@ -46,9 +46,6 @@ sized f o =
 unfoldable pub nameAt : ℕ → ℕ → Reading Name
 nameAt f o = choose (eqb o 0) (got absent) (sized f o)
 
--- what the code answers for the name at an offset
-abbrev pub nameRead : ℕ → Outcome Name → NameRead
-nameRead zero (done n) = read.Absent
-nameRead (suc o) (done n) = read.Present n
-nameRead zero (refused r) = read.Refused r
-nameRead (suc o) (refused r) = read.Refused r
+-- what the code answers for a name
+abbrev pub nameRead : Outcome Name → NameRead
+nameRead o = answer read.Name read.Refused o

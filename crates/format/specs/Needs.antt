@@ -2,7 +2,7 @@
 use Prim.Native.Nat.{ℕ, _+_, min}
 use mathlib.Core.List.{List, [], _∷_}
 use lib.ListN.{length}
-use Rattle.blob.specs.Reading.{Outcome, done, refused}
+use Rattle.blob.specs.Reading.{Outcome, answer}
 use Rattle.format.specs.Map.{Mapped}
 use Rattle.format.specs.declared.MapsRead.{MapsRead}
 use Rattle.format.specs.declared.MapsRead.the-variants as maps
@@ -17,5 +17,4 @@ entryCount (m ∷ ms) = length (m .entries) + entryCount ms
 
 -- what the code answers for the maps of a MAPS
 abbrev pub mapsRead : Outcome (List Mapped) → MapsRead
-mapsRead (done ms) = maps.Entries (capped (entryCount ms))
-mapsRead (refused r) = maps.Refused r
+mapsRead o = answer (λ ms. maps.Entries (capped (entryCount ms))) maps.Refused o

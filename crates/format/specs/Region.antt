@@ -4,7 +4,7 @@
 use Prim.Native.Nat.{ℕ, _+_}
 use lib.Dec.{leb, eqb}
 use Rattle.blob.specs.declared.Refusal.{Refusal}
-use Rattle.blob.specs.Reading.{Reading, got, room, Outcome, done, refused, choose, demand, _>>=_}
+use Rattle.blob.specs.Reading.{Reading, got, room, Outcome, choose, demand, _>>=_, answer}
 use Rattle.format.specs.Refuse.{size-out}
 use Rattle.format.specs.declared.EndRead.{EndRead}
 use Rattle.format.specs.declared.EndRead.the-variants as read
@@ -33,5 +33,4 @@ regionAt f at size least = choose (eqb size 0) (got blob-end) (bounded f at size
 
 -- what the code answers for a value that tells an end
 abbrev pub endRead : {A : Type 0} → (A → ℕ) → Outcome A → EndRead
-endRead told (done a) = read.End (told a)
-endRead told (refused r) = read.Refused r
+endRead told o = answer (λ a. read.End (told a)) read.Refused o

@@ -1,7 +1,7 @@
 -- For each enum that a function answers, the code, field, place and two numbers that each of its cases stands for; and that they are
 -- those of what the definition finds. (`itemsSays` of Template is the one for `Items`.) "Where an answer is an enum, a definition gives this paper's number and values for each of the
 -- enum's cases." (forms)
-use Prim.Native.Nat.{ℕ, zero, suc}
+use Prim.Native.Nat.{ℕ}
 use mathlib.Core.Path.{_≡_, refl}
 use Rattle.blob.specs.declared.Refusal.{Refusal}
 use Rattle.blob.specs.declared.Verdict.{Verdict}
@@ -29,8 +29,7 @@ verdictSays verdicts.Fine = fine
 verdictSays (verdicts.Refused r) = r
 
 abbrev pub nameSays : NameRead → Refusal
-nameSays names.Absent = fine
-nameSays (names.Present n) = fine
+nameSays (names.Name n) = fine
 nameSays (names.Refused r) = r
 
 abbrev pub endSays : EndRead → Refusal
@@ -50,11 +49,9 @@ pub verdict-says : {A : Type 0} (o : Outcome A) → verdictSays (verdict o) ≡ 
 verdict-says (done a) = refl
 verdict-says (refused r) = refl
 
-pub name-says : (offset : ℕ) (o : Outcome Name) → nameSays (nameRead offset o) ≡ said o
-name-says zero (done n) = refl
-name-says (suc offset) (done n) = refl
-name-says zero (refused r) = refl
-name-says (suc offset) (refused r) = refl
+pub name-says : (o : Outcome Name) → nameSays (nameRead o) ≡ said o
+name-says (done n) = refl
+name-says (refused r) = refl
 
 pub end-says : {A : Type 0} (told : A → ℕ) (o : Outcome A) → endSays (endRead told o) ≡ said o
 end-says told (done a) = refl

@@ -4,7 +4,7 @@ use Prim.Native.Nat.{ℕ, _+_, _*_}
 use mathlib.Core.List.{List, [], _∷_}
 use lib.ListN.{getD}
 use lib.Dec.{leb, eqb}
-use Rattle.blob.specs.Reading.{Reading, got, Outcome, done, refused, choose, demand, _>>=_, number}
+use Rattle.blob.specs.Reading.{Reading, got, Outcome, choose, demand, _>>=_, number, answer}
 use Rattle.format.specs.Field.{table-offset, table-header, table-size, table-array}
 use Rattle.format.specs.Refuse.{whole, within, wrong-signature, size-out}
 use Rattle.format.specs.Region.{bounded}
@@ -83,5 +83,4 @@ tableEnd k at h =
 
 -- what the code answers for a header
 abbrev pub headerRead : Outcome Header → HeaderRead
-headerRead (done h) = read.Header h
-headerRead (refused r) = read.Refused r
+headerRead o = answer read.Header read.Refused o

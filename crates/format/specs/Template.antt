@@ -5,7 +5,7 @@ use mathlib.Core.Bool.{Bool, not, _||_}
 use mathlib.Core.List.{List}
 use lib.Dec.{leb, ltb, eqb}
 use Rattle.blob.specs.declared.Refusal.{Refusal}
-use Rattle.blob.specs.Reading.{Reading, got, stop, Outcome, done, refused, choose, demand, _>>=_, number, many}
+use Rattle.blob.specs.Reading.{Reading, got, stop, Outcome, choose, demand, _>>=_, number, many, answer}
 use Rattle.format.specs.Field.{TEMP-header, TEMP-size, TEMP-item-name-count-expected-0, TEMP-template-items-offset, TEMP-template-items-offset-relative, table-size}
 use Rattle.format.specs.Refuse.{fine, truncated, wrong-signature, size-out, count-out, offset-out}
 use Rattle.format.specs.Region.{Region, end, inside, regionAt}
@@ -88,5 +88,4 @@ templatesAt at h =
 
 -- what the code answers for a TEMP
 abbrev pub templateRead : Outcome Template → TemplateRead
-templateRead (done t) = read.Template t
-templateRead (refused r) = read.Refused r
+templateRead o = answer read.Template read.Refused o

@@ -16,10 +16,9 @@ pub struct Name {
     pub ended: bool,
 }
 
-// What reading a name finds; absent at offset 0.
+// What reading a name finds. At offset 0 it is absent: start 0, no units.
 pub enum NameRead {
-    Absent,
-    Present(Name),
+    Name(Name),
     Refused(Refusal),
 }
 

@@ -4,37 +4,31 @@ use mathlib.Core.Path.{_≡_, refl, ap, sym, _∙_}
 use mathlib.Core.List.{List}
 use mathlib.Core.Bool.{false}
 use native.Mathlib.Omega.{arith}
-use lib.Dec.{leb, eqb, eqb·suc-zero}
+use lib.Dec.{leb, eqb}
 use lib.ListN.{length}
 use borrow.Author.Tests.{le-leb, lt-leb, eq-eqb, ne-eqb}
 use Rattle.blob.specs.declared.Refusal.{Refusal}
 use Rattle.blob.specs.Le.{le}
-use Rattle.blob.specs.Laws.{run-number, run-room, run-past, run-holds, run-fails}
+use Rattle.blob.specs.Laws.{answer-refused, run-number, run-room, run-past, run-holds, run-fails}
 use Rattle.blob.specs.Reading.{Reading, Outcome, done, refused, demand, run}
 use Rattle.format.specs.Refuse.{truncated, size-out, offset-out, not-utf16, whole}
 use Rattle.format.specs.Name.{text, sized, nameAt, nameRead}
 use Rattle.format.specs.declared.Name.{Name}
 use Rattle.format.specs.declared.NameRead.{NameRead}
 use Rattle.format.specs.declared.NameRead.the-variants as read
-use Rattle.name.specs.Text.{present}
 
 -- a name whose offset is not 0 is there
-named : (f o : ℕ) (s : List ℕ) → 0 < o → nameRead o (run (nameAt f o) s) ≡ present (run (sized f o) s)
+named : (f o : ℕ) (s : List ℕ) → 0 < o → run (nameAt f o) s ≡ run (sized f o) s
 unfolding nameAt
-named f zero s h = absurd (omega arith)
-named f (suc o) s h = rw (eqb·suc-zero o) (go (run (sized f (suc o)) s))
-  where
-    go : (x : Outcome Name) → nameRead (suc o) x ≡ present x
-    go (done n) = refl
-    go (refused r) = refl
+named f o s h = rw (ne-eqb o 0 (λ z. omega arith))
 
 -- what is answered where the offset is not 0
 module _ (f o : ℕ) (s : List ℕ) (h : 0 < o) where
-  pub found : (r : NameRead) (p : Reading Name) → r ≡ present (run p s) → run (sized f o) s ≡ run p s → r ≡ nameRead o (run (nameAt f o) s)
-  found r p a e = a ∙ sym (named f o s h ∙ ap present e)
+  pub found : (r : NameRead) (p : Reading Name) → r ≡ nameRead (run p s) → run (sized f o) s ≡ run p s → r ≡ nameRead (run (nameAt f o) s)
+  found r p a e = a ∙ sym (ap nameRead (named f o s h ∙ e))
 
-  pub refuses : (x y : Refusal) → x ≡ y → run (sized f o) s ≡ refused y → read.Refused x ≡ nameRead o (run (nameAt f o) s)
-  refuses x y a e = ap read.Refused a ∙ sym (named f o s h ∙ ap present e)
+  pub refuses : (x y : Refusal) → x ≡ y → run (sized f o) s ≡ refused y → read.Refused x ≡ nameRead (run (nameAt f o) s)
+  refuses x y a e = answer-refused read.Name read.Refused _ x y a (named f o s h ∙ e)
 
 module _ (f o : ℕ) (s : List ℕ) where
   pub sized-past : length s < o → run (sized f o) s ≡ refused (offset-out f o (length s))

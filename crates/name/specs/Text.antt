@@ -12,13 +12,6 @@ use Rattle.blob.specs.Reading.{Outcome, stop, done, refused, choose, demand, ru
 use Rattle.format.specs.Refuse.{not-utf16}
 use Rattle.format.specs.Name.{high, low, text}
 use Rattle.format.specs.declared.Name.{Name}
-use Rattle.format.specs.declared.NameRead.{NameRead}
-use Rattle.format.specs.declared.NameRead.the-variants as read
-
--- what the code answers for a name that is there
-abbrev pub present : Outcome Name → NameRead
-present (done n) = read.Present n
-present (refused r) = read.Refused r
 
 -- whether what is a surrogate is a high one with a low one behind it
 abbrev pub pairs : List ℕ → ℕ → ℕ → Bool

@@ -6,7 +6,7 @@ ghost use lib.ListN.{length};
 ghost use Rattle.blob.specs.Le.{le};
 ghost use Rattle.blob.specs.Reading.{run};
 ghost use Rattle.format.specs.Name.{text, nameAt, nameRead};
-ghost use Rattle.name.specs.Text.{present, pairs};
+ghost use Rattle.name.specs.Text.{pairs};
 use format::Name;
 use format::NameRead;
 
@@ -32,7 +32,7 @@ fn paired(b: &[u8], at: usize, left: u32, unit: u32) -> bool
 // it along, so that none waits from one turn to the next.
 fn units(b: &[u8], field: u8, offset: u32, n: u32) -> NameRead
     requires { ⌜ (offset + 4 + 2 * n ≤ length (now b)) × (length (now b) ≤ 16777216) ⌝ }
-    ensures { λ r. ⌜ r ≡ present (run (text field offset n (offset + 4) 0 false) (now (b .entry))) ⌝ }
+    ensures { λ r. ⌜ r ≡ nameRead (run (text field offset n (offset + 4) 0 false) (now (b .entry))) ⌝ }
 {
     let start = offset + 4;
     let mut at = start as usize;
@@ -42,7 +42,7 @@ fn units(b: &[u8], field: u8, offset: u32, n: u32) -> NameRead
         if unit < 0xD800 {
             if unit == 0 {
                 let passed = n - left;
-                return NameRead::Present(Name {
+                return NameRead::Name(Name {
                     start,
                     units: passed,
                     ended: true,
@@ -59,20 +59,25 @@ fn units(b: &[u8], field: u8, offset: u32, n: u32) -> NameRead
         at += 2;
         left -= 1;
     }
-    NameRead::Present(Name {
+    let ended = false;
+    NameRead::Name(Name {
         start,
         units: n,
-        ended: false,
+        ended,
     })
 }
 
 // The name at an offset. The callers test the blob's length first, so that a text's start fits 32 bits.
 pub fn name_at(b: &[u8], field: u8, offset: u32) -> NameRead
     requires { ⌜ length (now b) ≤ 16777216 ⌝ }
-    ensures { λ r. ⌜ r ≡ nameRead offset (run (nameAt field offset) (now (b .entry))) ⌝ }
+    ensures { λ r. ⌜ r ≡ nameRead (run (nameAt field offset) (now (b .entry))) ⌝ }
 {
     if offset == 0 {
-        return NameRead::Absent;
+        return NameRead::Name(Name {
+            start: 0,
+            units: 0,
+            ended: false,
+        });
     }
     let at = offset as usize;
     if b.len() < at {

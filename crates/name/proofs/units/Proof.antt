@@ -9,8 +9,8 @@ use borrow.Author.Needs.{needs}
 use lib.ListN.{length}
 use Rattle.blob.specs.Reading.{run}
 use Rattle.format.specs.declared.NameRead.the-variants as read
-use Rattle.format.specs.Name.{text}
-use Rattle.name.specs.Text.{present, text-none, text-zero, text-below, text-above, text-pair, text-unpaired, pairs-two}
+use Rattle.format.specs.Name.{text, nameRead}
+use Rattle.name.specs.Text.{text-none, text-zero, text-below, text-above, text-pair, text-unpaired, pairs-two}
 use Rattle.name.proofs.units.Statement.{statement}
 use Rattle.name.proofs.units.Tie as tie
 
@@ -41,7 +41,7 @@ sub-passed c = search needs
 returns : tie.Need-returns Inv-loop μ-loop
 returns c =
     let h = c .before .before in
-    sym (ap present (h .before .before .loop .inv .2 ∙ text-zero _ _ _ _ _ _ (h .before .loop-test .taken) (sym (h .half .ensures) ∙ c .if2 .taken)))
+    sym (ap nameRead (h .before .before .loop .inv .2 ∙ text-zero _ _ _ _ _ _ (h .before .loop-test .taken) (sym (h .half .ensures) ∙ c .if2 .taken)))
 
 paired-requires : tie.Need-paired-requires Inv-loop μ-loop
 paired-requires c κs = search needs
@@ -73,7 +73,7 @@ returns-2 c =
     let p = c .before .before in
     let h = p .before .before .before in
     ap read.Refused (c .not-utf16 .ensures)
-    ∙ sym (ap present (h .before .before .loop .inv .2
+    ∙ sym (ap nameRead (h .before .before .loop .inv .2
     ∙ text-unpaired _ _ _ _ _ _ (h .before .loop-test .taken) (omega arith) (omega arith) (sym (p .paired .ensures) ∙ c .before .if4 .left)))
 
 add-at-2 : tie.Need-add-at-2 Inv-loop μ-loop
@@ -97,7 +97,7 @@ loop-again-2 c = (
 )
 
 returns-3 : tie.Need-returns-3 Inv-loop μ-loop
-returns-3 c = sym (ap present (c .before .loop .inv .2 ∙ text-none _ _ _ _ _ _ _ (omega arith) (c .loop-test .left)))
+returns-3 c = sym (ap nameRead (c .before .loop .inv .2 ∙ text-none _ _ _ _ _ _ _ (omega arith) (c .loop-test .left)))
 
 pub units-spec : {M : Type 1} → statement M
 units-spec =
