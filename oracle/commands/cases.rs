@@ -1,5 +1,5 @@
-//! cases: the original's answers to the scope's proved cases, held against what
-//! the scope says of them.
+//! cases: the original's answers to the proved cases of docs/FORMAT.md, held against what
+//! it says of them.
 
 use std::process::ExitCode;
 

@@ -2,16 +2,15 @@
 -- It holds of every reading, whatever format it reads.
 use Prim.Native.Nat.{ℕ, _≤_}
 use mathlib.Core.Path.{_≡_, refl}
-use mathlib.Core.List.{List, [], _∷_}
+use mathlib.Core.List.{List, []}
 use mathlib.Core.Bool.{Bool, true, false}
 use native.Mathlib.Omega.{arith}
 use lib.ListN.{length, getD}
 use lib.Dec.{leb}
 use borrow.Author.Tests.{le-leb, leb-true}
 use Rattle.blob.specs.Places.{Each}
-use Rattle.blob.specs.declared.Refusal.{Refusal}
 use Rattle.blob.specs.Laws.{never}
-use Rattle.blob.specs.Reading.{Reading, got, stop, room, byte, Outcome, done, refused, choose, run, places}
+use Rattle.blob.specs.Reading.{Reading, got, stop, room, byte, done, refused, choose, run, places}
 
 -- two blobs agree on each of some places
 abbrev pub Agree : List ℕ → List ℕ → List ℕ → Type 0

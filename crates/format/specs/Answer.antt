@@ -24,7 +24,7 @@ abbrev pub ten : Counts → List ℕ
 ten c =
     c .providers ∷ c .descriptors ∷ c .unknown2 ∷ c .tables ∷ c .definitions ∷ c .events ∷ c .maps ∷ c .entries ∷ c .templates ∷ c .unknown ∷ []
 
--- "7 | lent bytes over 16,777,216 | 0; 0, 0", and so 8 and 10
+-- "7 | lent bytes over 16,777,216 | 0; 0, 0", and so 8 and 10. "Codes 7 to 10 are the port's own."
 abbrev pub own : ℕ → Refusal
 own code = record { code = code; field = 0; place = 0; first = 0; second = 0 }
 

@@ -2,23 +2,21 @@
 -- every byte that its reading rests on, bytes 4 to 7 excepted, is accepted with the same lists, given room; and m is n if the reading
 -- takes any of those four bytes for anything besides CRIM.size.
 use Prim.{Unit, tt}
-use Prim.Native.Nat.{ℕ, zero, suc, _+_, _*_, _≤_, _<_}
-use mathlib.Core.Path.{_≡_, refl, ap, ap₂, sym, _∙_, subst}
-use mathlib.Core.Bool.{Bool, true, false, _&&_}
+use Prim.Native.Nat.{ℕ, zero, suc, _+_, _≤_, _<_}
+use mathlib.Core.Path.{_≡_, refl, sym, _∙_, subst}
+use mathlib.Core.Bool.{Bool, true, false}
 use mathlib.Core.List.{List, [], _∷_, _++_}
 use native.Mathlib.Omega.{arith}
 use lib.ListN.{length, getD, take}
 use lib.Seq.{length-take-le, getD-take}
-use lib.Dec.{leb, eqb}
-use borrow.Author.Tests.{le-leb, leb-true, leb-false, eqb-true, eq-eqb}
+use lib.Dec.{leb}
+use borrow.Author.Tests.{le-leb, leb-true, leb-false, eq-eqb}
 use Rattle.blob.specs.Le.{le}
 use Rattle.blob.specs.Places.{Each, span}
-use Rattle.blob.specs.declared.Refusal.{Refusal}
-use Rattle.blob.specs.Reading.{Reading, Outcome, done, refused, choose, demand, run, places, then}
-use Rattle.blob.specs.Laws.{run-number, then-done, choose-done, same}
+use Rattle.blob.specs.Reading.{done, demand, run, places, then}
+use Rattle.blob.specs.Laws.{run-number, then-done, choose-done}
 use Rattle.blob.specs.Longer.{Agree, longer}
-use Rattle.blob.specs.Asks.{Finds, finds-got, finds-room, finds-demand, finds-next, Asked, inside-append, inside-span, span-join, span-append}
-use Rattle.format.specs.Crim.{CRIM, CrimHeader, Crim, header, providersOf, crim}
+use Rattle.format.specs.Crim.{CRIM, Crim, header, providersOf, crim}
 use Rattle.format.specs.Lists.{Entry, lists}
 use Rattle.format.specs.Answer.{ten, widths, moderate, areas, lent-enough, with-room, reading}
 use Rattle.format.specs.Rests.{providersBytes, restsOn}

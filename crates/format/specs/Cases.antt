@@ -1,9 +1,9 @@
 -- The proved cases: one table, computed under one claim. A row has the bytes, the whole answer and the words of all ten lists.
 -- "Cases (P: proved together)".
-use Prim.Native.Nat.{ℕ, _+_, _*_, _/_, _%_}
+use Prim.Native.Nat.{ℕ, _/_, _%_}
 use mathlib.Core.Path.{_≡_, refl}
 use mathlib.Core.List.{List, [], _∷_, _++_, map}
-use lib.ListN.{length, replicate}
+use lib.ListN.{replicate}
 use Rattle.blob.specs.Reading.{Outcome, done, refused, demand, run, then, _>>=_, number, many, each}
 use Rattle.blob.specs.Le.{le}
 use Rattle.blob.specs.Laid.{laid, flat}
@@ -17,20 +17,21 @@ use Rattle.format.specs.Provider.{WEVT, eventsAt, unknownAt, elementOf, 
 use Rattle.format.specs.Crim.{CRIM, Crim, header, describedAt, providersOf, crim}
 use Rattle.format.specs.Lists.{lastOf, unknowns, ownedTables, ownedUnknowns, tableEntries, mapList, lists}
 use Rattle.format.specs.Answer.{ten, widths, moderate, areas, with-room, reading, counted, answer}
+use Rattle.format.specs.Listing.{says, number as numeral, listing}
 use Rattle.format.specs.declared.Counts.{Counts}
 use Rattle.format.specs.declared.Answer.{Answer}
 
 -- a word's four bytes
-abbrev four : ℕ → List ℕ
+abbrev pub four : ℕ → List ℕ
 four w = w % 256 ∷ w / 256 % 256 ∷ w / 65536 % 256 ∷ w / 16777216 ∷ []
 
 -- "Blob Z: `CRIM`, size 16, versions 0, count 0."
-abbrev Z : ℕ → ℕ → List ℕ
+abbrev pub Z : ℕ → ℕ → List ℕ
 Z size count = flat four (CRIM ∷ size ∷ 0 ∷ count ∷ [])
 
 -- "Blob T: 116 bytes, all words zero but these: `CRIM` 0, size 116, provider count 1, provider offset 36 (at 32); `WEVT` 36, size 80,
 -- one descriptor; descriptor 56 to offset 64; `TTBL` 64, size 52, count 1; `TEMP` 76, size 40."
-abbrev T : (ttbl temp names items : ℕ) → List ℕ
+abbrev pub T : (ttbl temp names items : ℕ) → List ℕ
 T ttbl temp names items =
     flat four (
     CRIM ∷ 116 ∷ 0 ∷ 1 ∷ 0 ∷ 0 ∷ 0 ∷ 0 ∷ 36
@@ -39,7 +40,7 @@ T ttbl temp names items =
     ∷ TEMP ∷ temp ∷ 0 ∷ names ∷ items ∷ 0 ∷ 0 ∷ 0 ∷ 0 ∷ 0 ∷ [])
 
 -- one entry of each list, and words for them
-abbrev one-each : Counts
+abbrev pub one-each : Counts
 one-each =
     record { providers = 1; descriptors = 1; unknown2 = 1; tables = 1; definitions = 1; events = 1; maps = 1; entries = 1; templates = 1; unknown = 1 }
 
@@ -63,6 +64,9 @@ rowOf o = record { answer = answer o; lists = listed o }
 
 -- what the definition finds of some bytes
 found : List ℕ → Row
+unfolding demand run then _>>=_ number many each le laid flat nameAt inside bounded regionAt kindIn headerAt tableEnd guidAt fieldsAt definitionAt definitionsAt
+    itemsAt templateAt templatesAt mapsAt eventsAt unknownAt elementOf elementAt descriptorAt providerAt header describedAt providersOf crim
+    lastOf unknowns ownedTables ownedUnknowns tableEntries mapList lists moderate areas with-room reading answer
 found bytes =
     rowOf (reading bytes (replicate (areas (ten one-each) widths) 0) one-each)
 
@@ -129,7 +133,12 @@ table =
 -- every row is what the definition finds
 cases : map (λ c. found (c .bytes)) table ≡ map (λ c. c .row) table
 unfolding found table
-    demand run then _>>=_ number many each le laid flat nameAt inside bounded regionAt kindIn headerAt tableEnd guidAt fieldsAt definitionAt definitionsAt
-    itemsAt templateAt templatesAt mapsAt eventsAt unknownAt elementOf elementAt descriptorAt providerAt header describedAt providersOf crim
-    lastOf unknowns ownedTables ownedUnknowns tableEntries mapList lists moderate areas with-room reading answer
 cases = refl
+
+-- "The listing of T, whole"
+listed-T : listing (T 52 40 0 0)
+    ≡ (says "crim" ∷ numeral 116 ∷ says "providers" ∷ numeral 1 ∷ says "events" ∷ numeral 0 ∷ says "templates" ∷ numeral 1 ∷ [])
+    ∷ (says "template" ∷ numeral 76 ∷ says "size" ∷ numeral 40 ∷ says "binxml" ∷ numeral 116 ∷ numeral 0 ∷ [])
+    ∷ []
+unfolding found listing
+listed-T = refl

@@ -2,10 +2,10 @@
 -- the contract allows are equal; each count is the length of its list, and a refusal's are zero.
 use Prim.Native.Nat.{ℕ}
 use mathlib.Core.Path.{_≡_, refl, sym, _∙_}
-use mathlib.Core.List.{List, [], _∷_, map}
+use mathlib.Core.List.{List, map}
 use lib.ListN.{length, replicate}
 use Rattle.blob.specs.declared.Refusal.{Refusal}
-use Rattle.blob.specs.Reading.{Outcome, done, refused}
+use Rattle.blob.specs.Reading.{done, refused}
 use Rattle.format.specs.Crim.{Crim}
 use Rattle.format.specs.Lists.{lists}
 use Rattle.format.specs.Answer.{ten, reading, answer, held}

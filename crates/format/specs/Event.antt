@@ -1,5 +1,5 @@
--- EVNT: the 15 fields of the original's `EventDefinition` in order, keywords as low then high; the extra word; the trailing part.
--- "stored fields in `types.rs` order" (tables); "Extra is EVNT's word at 12 .. Trailing is EVNT's" (the lists).
+-- EVNT's records: the 15 fields of the original's `EventDefinition` in order, keywords as low then high. "stored fields in `types.rs`
+-- order" (tables). "Offset words in events: 0 means absent." (the lists): they stand raw.
 use Prim.Native.Nat.{ℕ, _+_}
 use Rattle.blob.specs.Reading.{Reading, got, _>>=_, number}
 use Rattle.format.specs.declared.Event.{Event}

@@ -7,5 +7,5 @@ use lib.ListN.{length, take, drop}
 use lib.Dec.{leb}
 use Rattle.blob.specs.Reading.{choose}
 
-unfoldable pub shown : (bytes : List ℕ) → (size start count : ℕ) → List ℕ
-shown bytes size start count = choose (leb size (length bytes) && leb (start + count) size) (take count (drop start bytes)) []
+unfoldable pub shown : (bytes : List ℕ) → (size start len : ℕ) → List ℕ
+shown bytes size start len = choose (leb size (length bytes) && leb (start + len) size) (take len (drop start bytes)) []

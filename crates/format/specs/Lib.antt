@@ -1,3 +1,4 @@
+-- What is right, in reading order.
 pub mod Field
 pub mod Refuse
 pub mod Name
@@ -12,11 +13,16 @@ pub mod Provider
 pub mod Crim
 pub mod Lists
 pub mod Answer
-pub mod Cases
-pub mod Rests
-pub mod Rested
-pub mod Says
-pub mod Block
 pub mod Lookup
 pub mod Handle
+pub mod Listing
+pub mod Says
+pub mod Rests
+-- Theorems about it.
+pub mod Cases
+pub mod Examples
+pub mod Order
 pub mod Determined
+pub mod Said
+pub mod Rested
+pub mod Block

@@ -23,6 +23,7 @@ use Rattle.format.specs.declared.Unknown.{Unknown}
 abbrev pub Entry : Type 0
 Entry = List ℕ
 
+-- "Message words stand raw: 4,294,967,295 means absent (except in events, where it is plain). Offset words in events: 0 means absent."
 -- "GUID words are its 16 bytes as little-endian words."
 abbrev pub guidWords : Guid → List ℕ
 guidWords g = g .a ∷ g .b ∷ g .c ∷ g .d ∷ []

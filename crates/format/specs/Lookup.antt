@@ -1,11 +1,10 @@
 -- Finding a template. "A lookup takes the lent words, capacities and counts of a reading. Order: 8 as above, 10 for a count over its
 -- capacity or a fault named below, then 9." (finding a template)
-use Prim.Native.Nat.{ℕ, zero, suc, _+_, _-_, _*_, _/_}
+use Prim.Native.Nat.{ℕ, zero, suc, _+_, _-_, _/_}
 use mathlib.Core.Bool.{Bool, true, false, not, _&&_}
 use mathlib.Core.List.{List, [], _∷_, map}
 use lib.ListN.{length, getD, take, drop}
 use lib.Dec.{leb, ltb, eqb}
-use Rattle.blob.specs.declared.Refusal.{Refusal}
 use Rattle.blob.specs.Reading.{Outcome, done, refused, choose, answer}
 use Rattle.blob.specs.Laid.{laid, flat}
 use Rattle.format.specs.Table.{EVNT, TTBL}
@@ -19,18 +18,18 @@ use Rattle.format.specs.declared.GuidsFound.{GuidsFound}
 use Rattle.format.specs.declared.GuidsFound.the-variants as guids
 
 -- n entries of so many words each, from a place of the words on
-unfoldable pub entries : ℕ → ℕ → ℕ → List ℕ → List Entry
-entries width zero at words = []
-entries width (suc n) at words = take width (drop at words) ∷ entries width n (at + width) words
+unfoldable pub entriesFrom : ℕ → ℕ → ℕ → List ℕ → List Entry
+entriesFrom width zero at words = []
+entriesFrom width (suc n) at words = take width (drop at words) ∷ entriesFrom width n (at + width) words
 
 -- the entries of a list, by its number: its area starts where those before it end
-abbrev pub listed : List ℕ → Counts → Counts → ℕ → List Entry
-listed words capacities counts l =
-    entries (getD widths (l - 1) 0) (getD (ten counts) (l - 1) 0) (areas (take (l - 1) (ten capacities)) widths) words
+abbrev pub entriesOf : List ℕ → Counts → Counts → ℕ → List Entry
+entriesOf words capacities counts l =
+    entriesFrom (getD widths (l - 1) 0) (getD (ten counts) (l - 1) 0) (areas (take (l - 1) (ten capacities)) widths) words
 
 -- a word of an entry
-abbrev pub word : ℕ → Entry → ℕ
-word i e = getD e i 0
+abbrev pub wordOf : ℕ → Entry → ℕ
+wordOf i e = getD e i 0
 
 -- no count is over its capacity
 unfoldable pub counts-fit : List ℕ → List ℕ → Bool
@@ -58,7 +57,7 @@ unfoldable pub byOffset : List ℕ → Counts → Counts → (first count offset
 byOffset words capacities counts first count offset =
     choose (lent-enough capacities words)
     (choose (counts-fit (ten counts) (ten capacities) && leb (first + count) (counts .templates))
-    (numbered (position (λ t. eqb (word 0 t) offset) first (take count (drop first (listed words capacities counts 9)))))
+    (numbered (position (λ t. eqb (wordOf 0 t) offset) first (take count (drop first (entriesOf words capacities counts 9)))))
     (template.Refused (own 10)))
     (template.Refused (own 8))
 
@@ -83,42 +82,43 @@ once seen (g ∷ gs) = choose (among g seen) (once seen gs) (g ∷ once (g ∷ s
 abbrev pub listOf : ℕ → ℕ
 listOf k = getD (0 ∷ 5 ∷ 6 ∷ 5 ∷ 5 ∷ 7 ∷ 5 ∷ 5 ∷ 9 ∷ []) k 0
 
--- "10 if any table entry names a missing provider or a range past its list, or its kind isn't 1 to 8". A table entry's words: provider
+-- "10 | lookup over lists that don't fit together | 0; 0, 0" (the answer). "10 if any table entry names a missing provider or a range past its list, or its kind isn't 1 to 8, and for nothing else but such
+-- counts." A table entry's words: provider
 -- number, kind, .., first entry and count at 5 and 6
 abbrev pub tableFits : Counts → Entry → Bool
 tableFits counts t =
-    ltb (word 0 t) (counts .providers) && (leb 1 (word 1 t) && (leb (word 1 t) 8
-    && leb (word 5 t + word 6 t) (getD (ten counts) (listOf (word 1 t) - 1) 0)))
+    ltb (wordOf 0 t) (counts .providers) && (leb 1 (wordOf 1 t) && (leb (wordOf 1 t) 8
+    && leb (wordOf 5 t + wordOf 6 t) (getD (ten counts) (listOf (wordOf 1 t) - 1) 0)))
 
 unfoldable pub tablesFit : Counts → List Entry → Bool
 tablesFit counts [] = true
 tablesFit counts (t ∷ ts) = tableFits counts t && tablesFit counts ts
 
 -- "A provider's first table entry of a kind is used.": the entries of its range, in their list
-abbrev pub owned : List Entry → ℕ → ℕ → List Entry → List Entry
-owned tables provider kind es =
-    flat (λ t. take (word 6 t) (drop (word 5 t) es)) (take 1 (select (λ t. eqb (word 0 t) provider && eqb (word 1 t) kind) tables))
+abbrev pub ownedBy : List Entry → ℕ → ℕ → List Entry → List Entry
+ownedBy tables provider kind es =
+    flat (λ t. take (wordOf 6 t) (drop (wordOf 5 t) es)) (take 1 (select (λ t. eqb (wordOf 0 t) provider && eqb (wordOf 1 t) kind) tables))
 
 -- "the seven fields `event_id` to `keywords`", as an event's first eight words
 abbrev pub keyWords : Key → List ℕ
 keyWords k = k .identifier ∷ k .version ∷ k .channel ∷ k .level ∷ k .opcode ∷ k .task ∷ k .low ∷ k .high ∷ []
 
 -- an event with that key and a template offset (word 9)
-abbrev pub asked : Key → Entry → Bool
-asked k e = alike (take 8 e) (keyWords k) && not (eqb (word 9 e) 0)
+abbrev pub keyed : Key → Entry → Bool
+keyed k e = alike (take 8 e) (keyWords k) && not (eqb (wordOf 9 e) 0)
 
 -- the GUID (words 6 to 9) of the lowest of some templates at an offset; none or one
 abbrev pub guidAtOffset : List Entry → ℕ → List Entry
-guidAtOffset ts offset = map (λ t. take 4 (drop 6 t)) (take 1 (select (λ t. eqb (word 0 t) offset) ts))
+guidAtOffset ts offset = map (λ t. take 4 (drop 6 t)) (take 1 (select (λ t. eqb (wordOf 0 t) offset) ts))
 
 -- "It takes the first provider with that GUID .. Its events with that key, a template offset and a found template give template GUIDs"
 unfoldable pub guidsOf : List ℕ → Counts → Counts → Key → List Entry
 guidsOf words capacities counts key =
-    let tables = listed words capacities counts 4 in
+    let tables = entriesOf words capacities counts 4 in
     flat (λ p.
-    let ts = owned tables p TTBL (listed words capacities counts 9) in
-    once [] (flat (λ e. guidAtOffset ts (word 9 e)) (select (asked key) (owned tables p EVNT (listed words capacities counts 6)))))
-    (position (λ p. alike (take 4 p) (guidWords (key .guid))) 0 (listed words capacities counts 1))
+    let ts = ownedBy tables p TTBL (entriesOf words capacities counts 9) in
+    once [] (flat (λ e. guidAtOffset ts (wordOf 9 e)) (select (keyed key) (ownedBy tables p EVNT (entriesOf words capacities counts 6)))))
+    (position (λ p. alike (take 4 p) (guidWords (key .guid))) 0 (entriesOf words capacities counts 1))
 
 -- "By key .. into a lent list of 4-word entries (9, list number 11, if short)"; "A list lent singly has as capacity its length over its
 -- entry's words, rounded down." (the answer)
@@ -127,7 +127,7 @@ byKey words capacities counts key lent =
     let capacity = length lent / 4 in
     let found = guidsOf words capacities counts key in
     choose (lent-enough capacities words && leb capacity 65536)
-    (choose (counts-fit (ten counts) (ten capacities) && tablesFit counts (listed words capacities counts 4))
+    (choose (counts-fit (ten counts) (ten capacities) && tablesFit counts (entriesOf words capacities counts 4))
     (choose (leb (length found) capacity) (done found) (refused (too-small 11 capacity)))
     (refused (own 10)))
     (refused (own 8))

@@ -1,6 +1,6 @@
 -- MAPS with VMAP, BMAP and others. "(16 bytes; bytes 12 to 15 not read): region as for TTBL, minimum 16. Count 0 ends there.
 -- count − 1 offsets from byte 16 must fit the blob, not the region (3). Map 0 starts right after them." (layouts)
-use Prim.Native.Nat.{ℕ, zero, suc, _+_, _-_, _*_, min}
+use Prim.Native.Nat.{ℕ, _+_, _-_, _*_, min}
 use mathlib.Core.List.{List, [], _∷_}
 use lib.Dec.{leb, eqb}
 use Rattle.blob.specs.declared.Refusal.{Refusal}
@@ -12,7 +12,6 @@ use Rattle.format.specs.Name.{nameAt, absent}
 use Rattle.format.specs.Table.{MAPS, header-length}
 use Rattle.format.specs.Definition.{step}
 use Rattle.format.specs.declared.Header.{Header}
-use Rattle.format.specs.declared.Name.{Name}
 use Rattle.format.specs.declared.Map.{Map}
 use Rattle.format.specs.declared.MapRead.{MapRead}
 use Rattle.format.specs.declared.MapRead.the-variants as read

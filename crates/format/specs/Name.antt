@@ -4,8 +4,7 @@
 use Prim.Native.Nat.{ℕ, zero, suc, _+_, _-_, _/_, _%_}
 use mathlib.Core.Bool.{Bool, true, false, not, _&&_}
 use lib.Dec.{leb, ltb, eqb}
-use Rattle.blob.specs.declared.Refusal.{Refusal}
-use Rattle.blob.specs.Reading.{Reading, got, stop, Outcome, choose, demand, _>>=_, number, answer}
+use Rattle.blob.specs.Reading.{Reading, got, Outcome, choose, demand, _>>=_, number, answer}
 use Rattle.format.specs.Refuse.{whole, within, size-out, not-utf16}
 use Rattle.format.specs.declared.Name.{Name}
 use Rattle.format.specs.declared.NameRead.{NameRead}

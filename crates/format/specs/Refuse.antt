@@ -1,5 +1,6 @@
 -- The answer, codes 1 to 6: what a refusal says, and the two tests that most of the format asks for.
--- "Code | Given when | Place, numbers" (the answer). The last argument of 1 to 6 is the blob's length.
+-- "Code | Given when | Place, numbers" (the answer). The last argument of 1 to 6 is the length that
+-- bytes are cut short at, or that an offset is past: the blob's, where no rule says another.
 use Prim.Native.Nat.{ℕ, _+_, _-_}
 use Rattle.blob.specs.declared.Refusal.{Refusal}
 use Rattle.blob.specs.Reading.{Reading, room}
@@ -12,7 +13,7 @@ fine = record { code = 0; field = 0; place = 0; first = 0; second = 0 }
 abbrev pub truncated : ℕ → ℕ → ℕ → ℕ → Refusal
 truncated f at needed n = record { code = 1; field = f; place = at; first = needed; second = n - at }
 
--- "2 | wrong signature | offset; expected, found as little-endian numbers"; code 2 has field 0
+-- "2 | wrong signature | offset; expected, found as little-endian numbers"; "codes 0, 2 and 7 upward have field 0"
 abbrev pub wrong-signature : ℕ → ℕ → ℕ → ℕ → Refusal
 wrong-signature at expected found n = record { code = 2; field = 0; place = at; first = expected; second = found }
 

@@ -1,44 +1,39 @@
 -- The reading asks for the bytes of Rests, for no other, and each of them lies in the blob: `rests`, at the end, from a theorem for each
 -- structure.
 use Prim.{Unit, tt}
-use Prim.Native.Nat.{ℕ, zero, suc, _+_, _-_, _*_, _/_, _%_, _≤_, _<_}
-use mathlib.Core.Path.{_≡_, refl, ap, ap₂, sym, _∙_, subst}
-use mathlib.Core.Bool.{Bool, true, false, not}
-use mathlib.Core.List.{List, [], _∷_, _++_, append-assoc, append-nil}
+use Prim.Native.Nat.{ℕ, zero, suc, _+_, _-_, _*_, _/_, _≤_, _<_}
+use mathlib.Core.Path.{_≡_, refl, ap₂, sym, _∙_, subst}
+use mathlib.Core.Bool.{Bool, true, false}
+use mathlib.Core.List.{List, [], _∷_, _++_, append-nil}
 use native.Mathlib.Nat.{mul-suc}
 use native.Mathlib.Omega.{arith}
 use lib.ListN.{length, take}
 use lib.Seq.{length-take-le}
 use lib.Dec.{leb, eqb}
-use borrow.Author.Tests.{leb-true, eqb-true, eqb-false}
+use borrow.Author.Tests.{leb-true, eqb-true}
 use Rattle.blob.specs.Le.{le}
-use Rattle.blob.specs.Laid.{flat}
 use Rattle.blob.specs.Places.{Each, span, rows}
 use Rattle.blob.specs.declared.Refusal.{Refusal}
 use Rattle.blob.specs.Reading.{Reading, got, done, choose, run, places, _>>=_, number, many}
 use Rattle.blob.specs.Laws.{then-done, same}
 use Rattle.blob.specs.Asks.{Finds, finds-got, finds-stop, finds-room, finds-choose, finds-demand, finds-bind, finds-so, finds-fixed, finds-number-asked, finds-next, finds-many, finds-each, Asked, asked-none, asked-append, asked-last, asked-span, asked-join, span-append, span-join, inside-span, inside-append}
-use Rattle.format.specs.Name.{text, sized, nameAt, absent, low, high}
+use Rattle.format.specs.Name.{text, sized, nameAt, absent, high}
 use Rattle.format.specs.Region.{Region, blob-end, until, inside, bounded, regionAt}
 use Rattle.format.specs.Table.{CHAN, EVNT, KEYW, LEVL, MAPS, OPCO, TASK, TTBL, signature, kinds, kindIn, header-length, stride, headerAt, tableEnd}
 use Rattle.format.specs.Definition.{guidAt, channelFields, keywordFields, taskFields, plainFields, fieldsAt, definitionAt, definitionsAt, step}
 use Rattle.format.specs.Event.{eventAt}
 use Rattle.format.specs.Template.{itemsAt, templateAt, templatesAt, next}
-use Rattle.format.specs.Map.{Mapped, VMAP, BMAP, entryAt, valueMapAt, otherMap, mapAt, mapsAt}
-use Rattle.format.specs.Provider.{Element, Provider, definitions, plain, elementOf, eventsAt, unknownAt, elementAt, descriptorAt, providerAt}
+use Rattle.format.specs.Map.{VMAP, BMAP, entryAt, valueMapAt, otherMap, mapAt, mapsAt}
+use Rattle.format.specs.Provider.{definitions, plain, elementOf, eventsAt, unknownAt, elementAt, descriptorAt, providerAt}
 use Rattle.format.specs.Crim.{CRIM, CrimHeader, Crim, header, describedAt, providersOf, crim}
 use Rattle.format.specs.Rests.{nameBytes, definitionBytes, mapBytes, mapsBytes, tableBytes, elementBytes, descriptorBytes, providerBytes, providersBytes, restsOn}
 use Rattle.format.specs.declared.Header.{Header}
 use Rattle.format.specs.declared.Name.{Name}
 use Rattle.format.specs.declared.Guid.{Guid}
-use Rattle.format.specs.declared.Definition.{Definition}
-use Rattle.format.specs.declared.Event.{Event}
 use Rattle.format.specs.declared.Descriptor.{Descriptor}
 use Rattle.format.specs.declared.MapEntry.{MapEntry}
 use Rattle.format.specs.declared.Items.{Items}
 use Rattle.format.specs.declared.Items.the-variants as items
-use Rattle.format.specs.declared.Template.{Template}
-use Rattle.format.specs.declared.TemplatePlace.{TemplatePlace}
 
 -- a span told by another width
 asked-exact : {s : List ℕ} (at w v : ℕ) → w ≡ v → at + w ≤ length s → Asked s (span at w) (span at v)

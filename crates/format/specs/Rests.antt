@@ -2,28 +2,23 @@
 -- "For an accepted blob: CRIM 0 to 15; provider descriptors; WEVT headers, descriptors, unknown2 words; element signatures; the first
 -- 8 bytes of unknown elements; table headers and records (MAPS without 12 to 15); MAPS offsets; each map's signature; VMAP headers and
 -- entries; 40-byte TEMP headers; each name's size word and units up to and with the first zero unit (all, if none). Replaced duplicate
--- tables count too." (bytes a reading rests on)
+-- tables count too. Bodies, BinXML and trailing bytes count only where they overlap these." (bytes a reading rests on)
 use Prim.Native.Nat.{ℕ, _+_, _*_}
-use mathlib.Core.Bool.{Bool, true, false}
 use mathlib.Core.List.{List, [], _∷_, _++_}
 use lib.ListN.{length}
 use lib.Dec.{eqb}
 use Rattle.blob.specs.Reading.{choose}
 use Rattle.blob.specs.Laid.{flat}
 use Rattle.blob.specs.Places.{span, rows}
-use Rattle.format.specs.Table.{header-length, stride}
+use Rattle.format.specs.Table.{stride}
 use Rattle.format.specs.Definition.{step}
 use Rattle.format.specs.Template.{next}
 use Rattle.format.specs.Map.{Mapped}
-use Rattle.format.specs.Provider.{Rows, definitions, events, maps, templates, Table, Element, table, unknown, Provider}
+use Rattle.format.specs.Provider.{Rows, definitions, events, maps, templates, Element, table, unknown, Provider}
 use Rattle.format.specs.Crim.{Crim}
 use Rattle.format.specs.declared.Name.{Name}
 use Rattle.format.specs.declared.Definition.{Definition}
-use Rattle.format.specs.declared.Event.{Event}
-use Rattle.format.specs.declared.Template.{Template}
-use Rattle.format.specs.declared.MapEntry.{MapEntry}
 use Rattle.format.specs.declared.Descriptor.{Descriptor}
-use Rattle.format.specs.declared.Unknown.{Unknown}
 
 -- "each name's size word and units up to and with the first zero unit (all, if none)"; none of an absent name
 unfoldable pub nameBytes : ℕ → Name → List ℕ

@@ -1,15 +1,11 @@
--- For each enum that a function answers, the code, field, place and two numbers that each of its cases stands for; and that they are
--- those of what the definition finds. (`itemsSays` of Template is the one for `Items`.) "Where an answer is an enum, a definition gives this paper's number and values for each of the
--- enum's cases." (forms)
-use Prim.Native.Nat.{ℕ}
-use mathlib.Core.Path.{_≡_, refl}
+-- For each enum that a function answers, the code, field, place and two numbers that each of its cases stands for. (`itemsSays` of
+-- Template is the one for `Items`.) "Where an answer is an enum, a definition gives .. number and values for each of the enum's cases."
+-- (forms)
 use Rattle.blob.specs.declared.Refusal.{Refusal}
 use Rattle.blob.specs.declared.Verdict.{Verdict}
 use Rattle.blob.specs.declared.Verdict.the-variants as verdicts
-use Rattle.blob.specs.Reading.{Outcome, done, refused, verdict}
+use Rattle.blob.specs.Reading.{Outcome, done, refused}
 use Rattle.format.specs.Refuse.{fine}
-use Rattle.format.specs.Name.{nameRead}
-use Rattle.format.specs.Region.{endRead}
 use Rattle.format.specs.declared.Name.{Name}
 use Rattle.format.specs.declared.NameRead.{NameRead}
 use Rattle.format.specs.declared.NameRead.the-variants as names
@@ -44,15 +40,3 @@ templateSays (templates.Refused r) = r
 abbrev pub guidsSays : GuidsFound → Refusal
 guidsSays (guids.Given n) = fine
 guidsSays (guids.Refused r) = r
-
-pub verdict-says : {A : Type 0} (o : Outcome A) → verdictSays (verdict o) ≡ said o
-verdict-says (done a) = refl
-verdict-says (refused r) = refl
-
-pub name-says : (o : Outcome Name) → nameSays (nameRead o) ≡ said o
-name-says (done n) = refl
-name-says (refused r) = refl
-
-pub end-says : {A : Type 0} (told : A → ℕ) (o : Outcome A) → endSays (endRead told o) ≡ said o
-end-says told (done a) = refl
-end-says told (refused r) = refl

@@ -1,7 +1,7 @@
 -- TTBL and TEMP. "TEMPs lie one after another from byte 12. Each: 40 bytes before the region end (1), signature, size at least 40 (3),
 -- end within the region (3); item count 0 with name count not 0 is 4 at TEMP + 12." (layouts)
 use Prim.Native.Nat.{ℕ, _+_, _-_}
-use mathlib.Core.Bool.{Bool, not, _||_}
+use mathlib.Core.Bool.{not, _||_}
 use mathlib.Core.List.{List}
 use lib.Dec.{leb, ltb, eqb}
 use Rattle.blob.specs.declared.Refusal.{Refusal}

@@ -1,6 +1,6 @@
 -- What each test of a sized name decides, in the order of the tests.
-use Prim.Native.Nat.{ℕ, zero, suc, _+_, _-_, _/_, _%_, _≤_, _<_}
-use mathlib.Core.Path.{_≡_, refl, ap, sym, _∙_}
+use Prim.Native.Nat.{ℕ, _+_, _-_, _/_, _%_, _≤_, _<_}
+use mathlib.Core.Path.{_≡_, ap, sym, _∙_}
 use mathlib.Core.List.{List}
 use mathlib.Core.Bool.{false}
 use native.Mathlib.Omega.{arith}
@@ -10,7 +10,7 @@ use borrow.Author.Tests.{le-leb, lt-leb, eq-eqb, ne-eqb}
 use Rattle.blob.specs.declared.Refusal.{Refusal}
 use Rattle.blob.specs.Le.{le}
 use Rattle.blob.specs.Laws.{answer-refused, run-number, run-room, run-past, run-holds, run-fails}
-use Rattle.blob.specs.Reading.{Reading, Outcome, done, refused, demand, run}
+use Rattle.blob.specs.Reading.{Reading, refused, demand, run}
 use Rattle.format.specs.Refuse.{truncated, size-out, offset-out, not-utf16, whole}
 use Rattle.format.specs.Name.{text, sized, nameAt, nameRead}
 use Rattle.format.specs.declared.Name.{Name}

@@ -1,0 +1,119 @@
+-- Computed examples of what the proved cases do not reach: the lent words after a reading, 9, replaced tables, both lookups, the handle.
+use Prim.Native.Nat.{ℕ}
+use mathlib.Core.Path.{_≡_, refl}
+use mathlib.Core.List.{List, [], _∷_, _++_}
+use lib.ListN.{replicate}
+use Rattle.blob.specs.Reading.{Outcome, done, refused}
+use Rattle.blob.specs.Laid.{laid, flat}
+use Rattle.format.specs.Table.{CHAN, LEVL}
+use Rattle.format.specs.Provider.{definitions, templates, Element, table, unknown}
+use Rattle.format.specs.Lists.{Entry, lastOf, kept}
+use Rattle.format.specs.Answer.{areas, filled, moderate, own, too-small, with-room}
+use Rattle.format.specs.Lookup.{alike, among, byKey, byOffset, counts-fit, entriesFrom, guidsHeld, guidsOf, once, position, select, tablesFit}
+use Rattle.format.specs.Handle.{shown}
+use Rattle.format.specs.declared.Counts.{Counts}
+use Rattle.format.specs.declared.Key.{Key}
+use Rattle.format.specs.declared.TemplateFound.the-variants as template
+
+-- two areas one after another: the entries at each area's start, all other words kept
+areas-in-a-row : filled (replicate 9 7) 0 (2 ∷ 2 ∷ []) (2 ∷ 1 ∷ []) (((1 ∷ 2 ∷ []) ∷ []) ∷ ((3 ∷ []) ∷ (4 ∷ []) ∷ []) ∷ [])
+    ≡ 1 ∷ 2 ∷ 7 ∷ 7 ∷ 3 ∷ 4 ∷ 7 ∷ 7 ∷ 7 ∷ []
+unfolding filled laid flat
+areas-in-a-row = refl
+
+-- 9 for the lowest-numbered list that is too small, counted from 1
+second-too-small : with-room {A = ℕ} 1 (1 ∷ 0 ∷ 0 ∷ []) (([] ∷ []) ∷ ([] ∷ []) ∷ ([] ∷ []) ∷ []) 5 ≡ refused (too-small 2 0)
+unfolding with-room
+second-too-small = refl
+
+-- of two tables of a kind the last is kept, whatever stands between; the kinds come in their order, not the file's
+abbrev a-table : ℕ → ℕ → Element
+a-table k at = table (record { kind = k; offset = at; size = 0; extra = 0; rows = definitions []; start = 0; length = 0 })
+
+last-kept : kept (a-table LEVL 10 ∷ a-table CHAN 20 ∷ unknown (record { signature = 1; offset = 2; size = 3 }) ∷ a-table LEVL 30 ∷ [])
+    ≡ record { kind = CHAN; offset = 20; size = 0; extra = 0; rows = definitions []; start = 0; length = 0 }
+    ∷ record { kind = LEVL; offset = 30; size = 0; extra = 0; rows = definitions []; start = 0; length = 0 }
+    ∷ []
+unfolding lastOf flat
+last-kept = refl
+
+-- one provider with GUID 1 2 3 4, an EVNT and a TTBL; three events with one key, of which the last two have a template; three templates,
+-- two of them at 76
+abbrev some : Counts
+some = record { providers = 1; descriptors = 0; unknown2 = 0; tables = 2; definitions = 0; events = 3; maps = 0; entries = 0; templates = 3; unknown = 0 }
+
+abbrev event : ℕ → List ℕ
+event at = 10 ∷ 1 ∷ 2 ∷ 3 ∷ 4 ∷ 5 ∷ 6 ∷ 7 ∷ 0 ∷ at ∷ replicate 6 0
+
+abbrev temp : ℕ → ℕ → List ℕ
+temp at g = at ∷ 40 ∷ 0 ∷ 0 ∷ 0 ∷ 0 ∷ g ∷ g ∷ g ∷ g ∷ 0 ∷ 0 ∷ []
+
+-- the words, with the kind of the second table
+abbrev words : ℕ → List ℕ
+words kind =
+    (1 ∷ 2 ∷ 3 ∷ 4 ∷ replicate 5 0)
+    ++ (0 ∷ 2 ∷ 0 ∷ 0 ∷ 0 ∷ 0 ∷ 3 ∷ 0 ∷ 0 ∷ [])
+    ++ (0 ∷ kind ∷ 0 ∷ 0 ∷ 0 ∷ 0 ∷ 3 ∷ 0 ∷ 0 ∷ [])
+    ++ event 0 ++ event 76 ++ event 76
+    ++ temp 50 5 ++ temp 76 8 ++ temp 76 9
+
+abbrev key : ℕ → Key
+key version = record { guid = record { a = 1; b = 2; c = 3; d = 4 }; identifier = 10; version = version; channel = 2; level = 3; opcode = 4; task = 5; low = 6; high = 7 }
+
+abbrev lookup : ℕ → ℕ → List ℕ → Outcome (List Entry)
+lookup kind version lent = byKey (words kind) some some (key version) lent
+
+-- the lowest template of an offset, within the range; none; a range past the list; a count over its capacity; too few words
+lowest : byOffset (words 8) some some 0 3 76 ≡ template.Number 1
+unfolding byOffset moderate areas counts-fit entriesFrom position
+lowest = refl
+
+within-the-range : byOffset (words 8) some some 2 1 76 ≡ template.Number 2
+unfolding byOffset moderate areas counts-fit entriesFrom position
+within-the-range = refl
+
+none-there : byOffset (words 8) some some 0 3 77 ≡ template.Nothing
+unfolding byOffset moderate areas counts-fit entriesFrom position
+none-there = refl
+
+past-the-list : byOffset (words 8) some some 4 0 76 ≡ template.Refused (own 10)
+unfolding byOffset moderate areas counts-fit
+past-the-list = refl
+
+too-few-words : byOffset [] some some 4 0 76 ≡ template.Refused (own 8)
+unfolding byOffset moderate areas
+too-few-words = refl
+
+-- by key: the GUID of the lowest template, once; nothing for another key; 9 where it does not fit; 10 before 9 for a kind that is none
+given-once : lookup 8 1 (replicate 5 0) ≡ done ((8 ∷ 8 ∷ 8 ∷ 8 ∷ []) ∷ [])
+unfolding byKey guidsOf moderate areas counts-fit entriesFrom position tablesFit select alike among once flat
+given-once = refl
+
+written-once : guidsHeld (replicate 5 0) (lookup 8 1 (replicate 5 0)) ≡ 8 ∷ 8 ∷ 8 ∷ 8 ∷ 0 ∷ []
+unfolding byKey guidsOf moderate areas counts-fit entriesFrom position tablesFit select alike among once flat laid
+written-once = refl
+
+another-key : lookup 8 2 [] ≡ done []
+unfolding byKey guidsOf moderate areas counts-fit entriesFrom position tablesFit select alike among once flat
+another-key = refl
+
+no-room : lookup 8 1 (replicate 3 0) ≡ refused (too-small 11 0)
+unfolding byKey guidsOf moderate areas counts-fit entriesFrom position tablesFit select alike among once flat
+no-room = refl
+
+no-kind : lookup 9 1 [] ≡ refused (own 10)
+unfolding byKey guidsOf moderate areas counts-fit entriesFrom position tablesFit select alike among once flat
+no-kind = refl
+
+-- the handle shows a part, or the empty part
+part : shown (1 ∷ 2 ∷ 3 ∷ 4 ∷ []) 3 1 2 ≡ 2 ∷ 3 ∷ []
+unfolding shown
+part = refl
+
+past-the-size : shown (1 ∷ 2 ∷ 3 ∷ 4 ∷ []) 3 2 2 ≡ []
+unfolding shown
+past-the-size = refl
+
+past-the-bytes : shown (1 ∷ 2 ∷ 3 ∷ 4 ∷ []) 5 0 1 ≡ []
+unfolding shown
+past-the-bytes = refl
