@@ -1,5 +1,5 @@
 //! cases: the original's answers to the proved cases of docs/FORMAT.md, held against what
-//! it says of them.
+//! is said there of them.
 
 use std::process::ExitCode;
 

@@ -8,7 +8,7 @@ use std::process::ExitCode;
 use answers::Answer;
 
 /// The module's head, with all that the checker unfolds to compute the definition.
-const HEAD: &str = include_str!("rows.antt");
+const HEAD: &str = include_str!("rows.txt");
 
 /// A longer blob can take more steps than the checker allows for one theorem.
 const LONGEST: usize = 4096;

@@ -1,7 +1,7 @@
 -- The listing of a block: its lines, of texts and numbers. A line's pieces are parted by one space, numbers are decimal, and each line
 -- ends in a newline. "the program takes 65,536 bytes, 64 entries a list"; "A refusal prints `refused CODE PLACE`; longer input prints
 -- `too long`. Template lines come in list order." (cases)
-use Prim.Native.Nat.{ℕ, _*_}
+use Prim.Native.Nat.{ℕ}
 use Prim.Native.String.{String}
 use mathlib.Core.List.{List, [], _∷_, map}
 use lib.ListN.{length, replicate, getD}

@@ -4,7 +4,7 @@ use Prim.Native.Nat.{ℕ, _+_, _*_, _-_, min}
 use mathlib.Core.List.{List}
 use lib.ListN.{length}
 use lib.Dec.{eqb}
-use Rattle.blob.specs.Reading.{Reading, got, room, choose, demand, _>>=_, number, many, each}
+use Rattle.blob.specs.Reading.{Reading, got, Outcome, room, choose, demand, _>>=_, number, many, each, answer}
 use Rattle.format.specs.Field.{WEVT-provider-offset, WEVT-header, WEVT-descriptor-array, WEVT-element-offset, WEVT-element-signature, WEVT-unknown2-array, provider-element-offset, unknown-element-header, unknown-element-end}
 use Rattle.format.specs.Refuse.{whole, within, wrong-signature, offset-out}
 use Rattle.format.specs.Table.{EVNT, MAPS, TTBL, kindOf, headerAt, header-length, stride, tableEnd}
@@ -16,7 +16,12 @@ use Rattle.format.specs.declared.Guid.{Guid}
 use Rattle.format.specs.declared.Definition.{Definition}
 use Rattle.format.specs.declared.Event.{Event}
 use Rattle.format.specs.declared.Template.{Template}
+use Rattle.format.specs.declared.Wevt.{Wevt}
+use Rattle.format.specs.declared.WevtRead.{WevtRead}
+use Rattle.format.specs.declared.WevtRead.the-variants as wevt
 use Rattle.format.specs.declared.Descriptor.{Descriptor}
+use Rattle.format.specs.declared.DescriptorRead.{DescriptorRead}
+use Rattle.format.specs.declared.DescriptorRead.the-variants as descriptor
 use Rattle.format.specs.declared.Unknown.{Unknown}
 
 -- `WEVT` as a little-endian number
@@ -98,27 +103,40 @@ descriptorAt at =
     number 4 offset >>= λ signature.
     got (record { offset = offset; unknown = unknown; signature = signature })))
 
--- "first their array whole in the blob (1) ..; then the unknown2 words, whole too (1); then the elements in descriptor order.
--- WEVT.size is recorded, not tested."
-unfoldable pub providerAt : Guid → ℕ → Reading Provider
-providerAt guid at =
+-- what the code answers for a descriptor
+abbrev pub descriptorRead : Outcome Descriptor → DescriptorRead
+descriptorRead o = answer descriptor.Descriptor descriptor.Refused o
+
+-- "signature, size, message, descriptor count, unknown2 count"; "WEVT.size is recorded, not tested."
+unfoldable pub wevtAt : ℕ → Reading Wevt
+wevtAt at =
     within WEVT-provider-offset at (
     whole WEVT-header at 20 (
     number 4 at >>= λ found.
     demand (eqb found WEVT) (wrong-signature at WEVT found) (
     number 4 (at + 4) >>= λ size. number 4 (at + 8) >>= λ message. number 4 (at + 12) >>= λ d. number 4 (at + 16) >>= λ u.
-    whole WEVT-descriptor-array (at + 20) (8 * d) (
-    many descriptorAt (step 8) d (at + 20) >>= λ descriptors.
-    let words = at + 20 + 8 * d in
-    whole WEVT-unknown2-array words (4 * u) (
-    many (number 4) (step 4) u words >>= λ unknown2.
+    got (record { size = size; message = message; descriptors = d; unknown2 = u }))))
+
+-- what the code answers for a header
+abbrev pub wevtRead : Outcome Wevt → WevtRead
+wevtRead o = answer wevt.Wevt wevt.Refused o
+
+-- "first their array whole in the blob (1) ..; then the unknown2 words, whole too (1); then the elements in descriptor order."
+unfoldable pub providerAt : Guid → ℕ → Reading Provider
+providerAt guid at =
+    wevtAt at >>= λ w.
+    whole WEVT-descriptor-array (at + 20) (8 * w .descriptors) (
+    many descriptorAt (step 8) (w .descriptors) (at + 20) >>= λ descriptors.
+    let words = at + 20 + 8 * w .descriptors in
+    whole WEVT-unknown2-array words (4 * w .unknown2) (
+    many (number 4) (step 4) (w .unknown2) words >>= λ unknown2.
     each elementAt descriptors >>= λ elements.
     got (record {
       guid = guid;
       offset = at;
-      size = size;
-      message = message;
+      size = w .size;
+      message = w .message;
       descriptors = descriptors;
       unknown2 = unknown2;
       elements = elements;
-    }))))))
+    })))

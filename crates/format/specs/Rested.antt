@@ -24,7 +24,7 @@ use Rattle.format.specs.Definition.{guidAt, channelFields, keywordFields
 use Rattle.format.specs.Event.{eventAt}
 use Rattle.format.specs.Template.{itemsAt, templateAt, templatesAt, next}
 use Rattle.format.specs.Map.{VMAP, BMAP, entryAt, valueMapAt, otherMap, mapAt, mapsAt}
-use Rattle.format.specs.Provider.{definitions, plain, elementOf, eventsAt, unknownAt, elementAt, descriptorAt, providerAt}
+use Rattle.format.specs.Provider.{definitions, plain, elementOf, eventsAt, unknownAt, elementAt, descriptorAt, wevtAt, providerAt}
 use Rattle.format.specs.Crim.{CRIM, CrimHeader, Crim, header, describedAt, providersOf, crim}
 use Rattle.format.specs.Rests.{nameBytes, definitionBytes, mapBytes, mapsBytes, tableBytes, elementBytes, descriptorBytes, providerBytes, providersBytes, restsOn}
 use Rattle.format.specs.declared.Header.{Header}
@@ -289,15 +289,21 @@ module _ (s : List ℕ) where
   word-asks : (at : ℕ) → at + 4 ≤ length s → Finds (number 4 at) s (λ w ps. Asked s ps (span at 4))
   word-asks at h = finds-so (finds-number-asked 4 at) (λ w ps e. subst (λ l. Asked s l (span at 4)) (e .0) (asked-span at 4 h))
 
+  wevt-asks : (at : ℕ) → Finds (wevtAt at) s (λ w ps. (span at 20 ≡ ps) × (at + 20 ≤ length s))
+  unfolding wevtAt
+  wevt-asks at =
+      finds-room (λ a. finds-room (λ b. finds-next 4 at (λ f ef. finds-demand _ _ (λ w.
+      finds-next 4 (at + 4) (λ _ _. finds-next 4 (at + 8) (λ _ _. finds-next 4 (at + 12) (λ _ _. finds-next 4 (at + 16) (λ _ _.
+      finds-got (simp (span-join, span-append, append-nil), b)))))))))
+
   provider-asks : (g : Guid) (at : ℕ) → Finds (providerAt g at) s (λ p ps. Asked s ps (providerBytes p))
   unfolding providerAt providerBytes
   provider-asks g at =
-      finds-room (λ a. finds-room (λ b. finds-next 4 at (λ f ef. finds-demand _ _ (λ w.
-      finds-next 4 (at + 4) (λ _ _. finds-next 4 (at + 8) (λ _ _. finds-next 4 (at + 12) (λ n en. finds-next 4 (at + 16) (λ u eu.
-      finds-room (λ c. finds-bind _ (finds-rows 8 descriptorBytes descriptor-asks n (at + 20) c) (λ ds ps gd.
-      finds-room (λ e. finds-bind _ (finds-rows 4 (λ p w. span p 4) word-asks u (at + 20 + 8 * n) e) (λ us qs gu.
+      finds-fixed _ _ (wevt-asks at) (λ w b.
+      finds-room (λ c. finds-bind _ (finds-rows 8 descriptorBytes descriptor-asks (w .descriptors) (at + 20) c) (λ ds ps gd.
+      finds-room (λ e. finds-bind _ (finds-rows 4 (λ p w. span p 4) word-asks (w .unknown2) (at + 20 + 8 * w .descriptors) e) (λ us qs gu.
       finds-bind _ (finds-each elementBytes element-asks ds) (λ es rs ge.
-      finds-got (simp (span-join, append-nil) (rw (gd .1) (asked-append (asked-span at 20 b) (asked-append (gd .0) (asked-append (gu .0) ge))))))))))))))))))
+      finds-got (simp append-nil (rw (gd .1) (asked-append (asked-span at 20 b) (asked-append (gd .0) (asked-append (gu .0) ge)))))))))))
 
   described-asks : (at : ℕ) → at + 20 ≤ length s → Finds (describedAt at) s (λ p ps. Asked s ps (span at 20 ++ providerBytes p))
   unfolding describedAt

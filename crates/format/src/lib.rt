@@ -141,11 +141,31 @@ pub struct MapEntry {
     pub message: u32,
 }
 
+// A WEVT's header: size, message, and how many descriptors and unknown2 words follow.
+pub struct Wevt {
+    pub size: u32,
+    pub message: u32,
+    pub descriptors: u32,
+    pub unknown2: u32,
+}
+
+// What reading a WEVT's header finds.
+pub enum WevtRead {
+    Wevt(Wevt),
+    Refused(Refusal),
+}
+
 // A provider's element descriptor, with its element's signature.
 pub struct Descriptor {
     pub offset: u32,
     pub unknown: u32,
     pub signature: u32,
+}
+
+// What reading a descriptor finds.
+pub enum DescriptorRead {
+    Descriptor(Descriptor),
+    Refused(Refusal),
 }
 
 // An element of no known kind.
