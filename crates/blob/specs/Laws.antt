@@ -69,6 +69,10 @@ run-stopped p f s r e = run-bind p f s ∙ ap (λ o. then o (λ n. run (f n) s))
 pub run-number : {B : Type 0} (w p : ℕ) (f : ℕ → Reading B) (s : List ℕ) → run (number w p >>= f) s ≡ run (f (le w s p)) s
 run-number w p f s = run-after (number w p) f s _ (finds-number w p s)
 
+pub run-got : {A : Type 0} (a : A) (s : List ℕ) → run (got a) s ≡ done a
+unfolding run
+run-got a s = refl
+
 -- where there is room, and where not; where a test holds, and where not
 module _ {A : Type 0} (r : ℕ → Refusal) (k : Reading A) (s : List ℕ) where
   pub run-room : (e : ℕ) → e ≤ length s → run (room e r k) s ≡ run k s
