@@ -13,7 +13,7 @@ use Rattle.format.specs.Table.{signature, TTBL, kindIn, headerAt, tableE
 use Rattle.format.specs.Definition.{guidAt, fieldsAt, definitionAt, definitionsAt}
 use Rattle.format.specs.Template.{TEMP, itemsAt, templateAt, templatesAt}
 use Rattle.format.specs.Map.{mapsAt}
-use Rattle.format.specs.Provider.{WEVT, eventsAt, unknownAt, elementOf, elementAt, descriptorAt, wevtAt, providerAt}
+use Rattle.format.specs.Provider.{WEVT, eventsAt, tableAt, unknownAt, elementOf, elementAt, descriptorAt, wevtAt, providerAt}
 use Rattle.format.specs.Crim.{CRIM, Crim, header, describedAt, providersOf, crim}
 use Rattle.format.specs.Lists.{lastOf, unknowns, ownedTables, ownedUnknowns, tableEntries, mapList, lists}
 use Rattle.format.specs.Answer.{ten, widths, moderate, areas, with-room, reading, counted, answer}
@@ -65,7 +65,7 @@ rowOf o = record { answer = answer o; lists = listed o }
 -- what the definition finds of some bytes
 found : List ℕ → Row
 unfolding demand run then _>>=_ number many each le laid flat nameAt inside bounded regionAt kindIn headerAt tableEnd guidAt fieldsAt definitionAt definitionsAt
-    itemsAt templateAt templatesAt mapsAt eventsAt unknownAt elementOf elementAt descriptorAt wevtAt providerAt header describedAt providersOf crim
+    itemsAt templateAt templatesAt mapsAt eventsAt tableAt unknownAt elementOf elementAt descriptorAt wevtAt providerAt header describedAt providersOf crim
     lastOf unknowns ownedTables ownedUnknowns tableEntries mapList lists moderate areas with-room reading answer
 found bytes =
     rowOf (reading bytes (replicate (areas (ten one-each) widths) 0) one-each)

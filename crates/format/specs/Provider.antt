@@ -12,6 +12,7 @@ use Rattle.format.specs.Definition.{definitionsAt, step}
 use Rattle.format.specs.Event.{eventAt}
 use Rattle.format.specs.Template.{templatesAt}
 use Rattle.format.specs.Map.{Mapped, mapsAt}
+use Rattle.format.specs.declared.Header.{Header}
 use Rattle.format.specs.declared.Guid.{Guid}
 use Rattle.format.specs.declared.Definition.{Definition}
 use Rattle.format.specs.declared.Event.{Event}
@@ -58,18 +59,25 @@ pub record Provider : Type 0 where
   pub elements : List Element
 
 -- a table with no extra word and no trailing part
-abbrev pub plain : ℕ → ℕ → ℕ → Rows → Element
-plain k at size rs = table (record { kind = k; offset = at; size = size; extra = 0; rows = rs; start = 0; length = 0 })
+abbrev pub plain : ℕ → ℕ → Header → Rows → Table
+plain k at h rs = record { kind = k; offset = at; size = h .size; extra = 0; rows = rs; start = 0; length = 0 }
 
--- EVNT: "Extra is EVNT's word at 12 .. Trailing is EVNT's", from the records' end to the table's
-unfoldable pub eventsAt : ℕ → Reading Element
-eventsAt at =
-    headerAt EVNT at >>= λ h.
+-- EVNT: "Extra is EVNT's word at 12 .. Trailing is EVNT's" (the lists), from the records' end to the table's
+unfoldable pub eventsAt : ℕ → Header → Reading Table
+eventsAt at h =
     tableEnd EVNT at h >>= λ e.
     number 4 (at + 12) >>= λ extra.
     many eventAt (step (stride EVNT)) (h .count) (at + header-length EVNT) >>= λ es.
     let records = at + header-length EVNT + stride EVNT * h .count in
-    got (table (record { kind = EVNT; offset = at; size = h .size; extra = extra; rows = events es; start = records; length = e - records }))
+    got (record { kind = EVNT; offset = at; size = h .size; extra = extra; rows = events es; start = records; length = e - records })
+
+-- the table of a kind whose header has been read
+unfoldable pub tableAt : ℕ → ℕ → Header → Reading Table
+tableAt k at h =
+    choose (eqb k EVNT) (eventsAt at h) (
+    choose (eqb k MAPS) (mapsAt at h >>= λ ms. got (plain k at h (maps ms))) (
+    choose (eqb k TTBL) (templatesAt at h >>= λ ts. got (plain k at h (templates ts)))
+    (definitionsAt k at h >>= λ ds. got (plain k at h (definitions ds)))))
 
 -- "Unknown ones ..: 8 bytes needed, and offset plus size within the blob (else 5 with that sum, at most 4,294,967,295)."
 unfoldable pub unknownAt : ℕ → Reading Element
@@ -83,12 +91,7 @@ unknownAt at =
 
 -- the element of a kind
 unfoldable pub elementOf : ℕ → ℕ → Reading Element
-elementOf k at =
-    choose (eqb k 0) (unknownAt at) (
-    choose (eqb k EVNT) (eventsAt at) (
-    choose (eqb k MAPS) (headerAt k at >>= λ h. mapsAt at h >>= λ ms. got (plain k at (h .size) (maps ms))) (
-    choose (eqb k TTBL) (headerAt k at >>= λ h. templatesAt at h >>= λ ts. got (plain k at (h .size) (templates ts)))
-    (headerAt k at >>= λ h. definitionsAt k at h >>= λ ds. got (plain k at (h .size) (definitions ds))))))
+elementOf k at = choose (eqb k 0) (unknownAt at) (headerAt k at >>= λ h. tableAt k at h >>= λ t. got (table t))
 
 -- the element of a descriptor, by its signature
 unfoldable pub elementAt : Descriptor → Reading Element

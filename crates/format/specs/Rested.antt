@@ -24,7 +24,7 @@ use Rattle.format.specs.Definition.{guidAt, channelFields, keywordFields
 use Rattle.format.specs.Event.{eventAt}
 use Rattle.format.specs.Template.{itemsAt, templateAt, templatesAt, next}
 use Rattle.format.specs.Map.{VMAP, BMAP, entryAt, valueMapAt, otherMap, mapAt, mapsAt}
-use Rattle.format.specs.Provider.{definitions, plain, elementOf, eventsAt, unknownAt, elementAt, descriptorAt, wevtAt, providerAt}
+use Rattle.format.specs.Provider.{Table, definitions, plain, elementOf, eventsAt, tableAt, unknownAt, elementAt, descriptorAt, wevtAt, providerAt}
 use Rattle.format.specs.Crim.{CRIM, CrimHeader, Crim, header, describedAt, providersOf, crim}
 use Rattle.format.specs.Rests.{nameBytes, definitionBytes, mapBytes, mapsBytes, tableBytes, elementBytes, descriptorBytes, providerBytes, providersBytes, restsOn}
 use Rattle.format.specs.declared.Header.{Header}
@@ -224,12 +224,16 @@ module _ (s : List ℕ) where
       finds-bind _ (finds-rows 4 (λ p n. span p 4 ++ mapBytes n) (λ p k. finds-next 4 p (λ o eo. finds-so (map-asks r o e) (λ m ps g. asked-append (asked-span p 4 k) g))) (h .count - 1) (at + 16) b)
       (λ ms qs k. finds-got (asked-append g (asked-last (k .0))))))))
 
-  events-asks : (at : ℕ) → Finds (eventsAt at) s (λ e ps. Asked s ps (elementBytes e))
-  unfolding eventsAt elementBytes tableBytes
-  events-asks at =
-      finds-fixed _ _ (header-asks EVNT at) (λ h w. finds-fixed [] _ (end-asks EVNT at h) (λ e f. finds-next 4 (at + 12) (λ x ex.
+  -- a table's bytes begin with its header's
+  abbrev TableAsks : ℕ → Reading Table → Type 0
+  TableAsks at r = Finds r s (λ t ps. Asked s (span at 12 ++ ps) (tableBytes (t .kind) (t .offset) (t .rows)))
+
+  events-asks : (at : ℕ) (h : Header) → at + 16 ≤ length s → TableAsks at (eventsAt at h)
+  unfolding eventsAt tableBytes
+  events-asks at h w =
+      finds-fixed [] _ (end-asks EVNT at h) (λ e f. finds-next 4 (at + 12) (λ x ex.
       finds-bind _ (finds-rows 48 (λ p e. span p 48) event-asks (h .count) (at + 16) f) (λ es ps g.
-      finds-got (simp (span-join, append-nil) (asked-append (asked-span at 16 w) (g .0)))))))
+      finds-got (simp (span-join, append-nil) (asked-append (asked-span at 16 w) (g .0))))))
 
   unknown-asks : (at : ℕ) → Finds (unknownAt at) s (λ e ps. Asked s ps (elementBytes e))
   unfolding unknownAt elementBytes
@@ -237,36 +241,45 @@ module _ (s : List ℕ) where
       finds-room (λ a. finds-room (λ b. finds-next 4 at (λ sig e. finds-next 4 (at + 4) (λ z ez. finds-room (λ w.
       finds-got (simp (span-append, append-nil) (asked-span at 8 b)))))))
 
-  -- a table of definitions, of a kind whose records are as `one` says
-  definitions-asks : (k at : ℕ) → header-length k ≡ 12 → ((p : ℕ) → Finds (fieldsAt k p) s (λ d ps. (span p (stride k) ≡ ps) × Unit {0}))
-      → Finds (headerAt k at >>= λ h. definitionsAt k at h >>= λ ds. got (plain k at (h .size) (definitions ds))) s (λ e ps. Asked s ps (elementBytes e))
-  unfolding definitionsAt elementBytes tableBytes
-  definitions-asks k at l one =
-      finds-fixed _ _ (header-asks k at) (λ h w. let w12 : at + 12 ≤ length s = rw l at w in
-      finds-bind (λ ds ps. Asked s ps (rows (definitionBytes k) (step (stride k)) (at + 12) ds) × (length ds ≡ h .count)) (finds-fixed [] _ (end-asks k at h) (λ e f. let f12 : at + 12 + stride k * h .count ≤ length s = rw l at f in
+  -- a table of definitions, of a kind whose records' fields are as `one` says
+  definitions-asks : (k at : ℕ) (h : Header) → header-length k ≡ 12 → at + header-length k ≤ length s
+      → ((p : ℕ) → Finds (fieldsAt k p) s (λ d ps. (span p (stride k) ≡ ps) × Unit {0}))
+      → TableAsks at (definitionsAt k at h >>= λ ds. got (plain k at h (definitions ds)))
+  unfolding definitionsAt tableBytes
+  definitions-asks k at h l w one =
+      let w12 : at + 12 ≤ length s = rw l at w in
+      finds-bind (λ ds ps. Asked s ps (rows (definitionBytes k) (step (stride k)) (at + 12) ds) × (length ds ≡ h .count)) (finds-fixed [] _ (end-asks k at h) (λ e f.
+      let f12 : at + 12 + stride k * h .count ≤ length s = rw l at f in
       rw l (finds-rows (stride k) (definitionBytes k) (λ p. definition-asks k p (one p)) (h .count) (at + 12) f12))) (λ ds ps g.
-      finds-got (asked-append (asked-span at 12 w12) (asked-last (g .0)))))
+      finds-got (asked-append (asked-span at 12 w12) (asked-last (g .0))))
+
+  -- a kind's element, from what its table asks for behind the header
+  of-kind : (k at : ℕ) → eqb k 0 ≡ false → ((h : Header) → at + header-length k ≤ length s → TableAsks at (tableAt k at h))
+      → Finds (elementOf k at) s (λ e ps. Asked s ps (elementBytes e))
+  unfolding elementOf elementBytes
+  of-kind k at z one =
+      rw z (finds-fixed _ _ (header-asks k at) (λ h w. finds-bind _ (one h w) (λ t ps g. finds-got (rw append-nil g))))
 
   element-asks : (d : Descriptor) → Finds (elementAt d) s (λ e ps. Asked s ps (elementBytes e))
-  unfolding elementAt elementOf fieldsAt elementBytes tableBytes
+  unfolding elementAt elementOf tableAt fieldsAt tableBytes
   element-asks d =
       kind-cases (λ k. Finds (elementOf k (d .offset)) s (λ e ps. Asked s ps (elementBytes e))) kinds (d .signature)
       (unknown-asks at) (
-        definitions-asks CHAN at refl channel-asks,
+        of-kind CHAN at refl (λ h w. definitions-asks CHAN at h refl w channel-asks),
         (
-          events-asks at,
+          of-kind EVNT at refl (events-asks at),
           (
-            definitions-asks KEYW at refl keyword-asks,
+            of-kind KEYW at refl (λ h w. definitions-asks KEYW at h refl w keyword-asks),
             (
-              definitions-asks LEVL at refl (plain-asks LEVL),
+              of-kind LEVL at refl (λ h w. definitions-asks LEVL at h refl w (plain-asks LEVL)),
               (
-                finds-fixed _ _ (header-asks MAPS at) (λ h w. finds-bind _ (maps-asks at h) (λ ms ps g. finds-got (asked-append (asked-span at 12 (omega arith)) (asked-last g)))),
+                of-kind MAPS at refl (λ h w. finds-bind _ (maps-asks at h) (λ ms ps g. finds-got (asked-append (asked-span at 12 (omega arith)) (asked-last g)))),
                 (
-                  definitions-asks OPCO at refl (plain-asks OPCO),
+                  of-kind OPCO at refl (λ h w. definitions-asks OPCO at h refl w (plain-asks OPCO)),
                   (
-                    definitions-asks TASK at refl task-asks,
+                    of-kind TASK at refl (λ h w. definitions-asks TASK at h refl w task-asks),
                     (
-                      finds-fixed _ _ (header-asks TTBL at) (λ h w. finds-bind _ (templates-asks at h) (λ ts ps g. finds-got (asked-append (asked-span at 12 w) (asked-last g)))),
+                      of-kind TTBL at refl (λ h w. finds-bind _ (templates-asks at h) (λ ts ps g. finds-got (asked-append (asked-span at 12 w) (asked-last g)))),
                       tt,
                     ),
                   ),
