@@ -31,6 +31,10 @@ laid-more a p (w ∷ ws) vs =
     let e : (p + 1) + length ws ≡ p + suc (length ws) = omega arith in
     laid-more (set a p w) (p + 1) ws vs ∙ ap (λ q. laid (laid (set a p w) (p + 1) ws) q vs) e
 
+-- the same of two stores, one behind the other
+pub laid-behind : (a b c : List ℕ) (p : ℕ) (ws vs : List ℕ) → b ≡ laid a p ws → c ≡ laid b (p + length ws) vs → c ≡ laid a p (ws ++ vs)
+laid-behind a b c p ws vs e g = g ∙ ap (λ (l : List ℕ). laid l (p + length ws) vs) e ∙ sym (laid-more a p ws vs)
+
 -- a store behind some elements is a store into what follows them
 set-behind : (xs ys : List ℕ) (j v : ℕ) → set (xs ++ ys) (length xs + j) v ≡ xs ++ set ys j v
 set-behind [] ys j v = simp zero-add

@@ -1,13 +1,13 @@
 -- Laws of a run, each stated once: of a sequence, of a number, of a loop that checks and of one that fills.
 use Prim.Native.Nat.{ℕ, zero, suc, _+_, _-_, _*_, _≤_, _<_}
 use mathlib.Core.Path.{_≡_, refl, ap, sym, _∙_}
-use mathlib.Core.List.{List, [], _∷_}
+use mathlib.Core.List.{List, [], _∷_, _++_}
 use mathlib.Core.Bool.{Bool, true, false}
 use native.Mathlib.Nat.{mul-zero, mul-suc}
 use native.Mathlib.Omega.{arith}
 use lib.ListN.{length, getD, length-append}
 use lib.Dec.{leb}
-use borrow.Author.Tests.{le-leb, lt-leb}
+use borrow.Author.Tests.{le-leb, lt-leb, leb-true}
 use Rattle.blob.specs.Le.{le}
 use Rattle.blob.specs.Laid.{laid, laid-more, flat}
 use Rattle.blob.specs.declared.Refusal.{Refusal}
@@ -28,6 +28,14 @@ module _ {A R : Type 0} (f : A → R) (g : Refusal → R) (o : Outcome A) where
 
   pub answer-refused : (q r : Refusal) → q ≡ r → o ≡ refused r → g q ≡ answer f g o
   answer-refused q r e h = ap g e ∙ ap (answer f g) (sym h)
+
+-- a refusal is no verdict Fine, and a list that is fine is its values
+pub not-fine : (r : Refusal) → verdicts.Refused r ≡ verdicts.Fine → ⊥
+not-fine r h = let z : _≡_ {A = ℕ} 0 1 = cc in omega arith
+
+pub fine-done : {A : Type 0} (o : Outcome (List A)) → verdict o ≡ verdicts.Fine → o ≡ done (values o)
+fine-done (done vs) v = refl
+fine-done (refused r) v = absurd (not-fine r v)
 
 -- what an accepted outcome was made of
 pub then-done : {A B : Type 0} (o : Outcome A) (f : A → Outcome B) (b : B) → then o f ≡ done b → (a : A) × (o ≡ done a) × (f a ≡ done b)
@@ -51,6 +59,16 @@ run-bind (room e r k) f s = go (leb e (length s)) (run-bind k f s)
     go false ih = refl
 run-bind (byte p k) f s = run-bind (k (getD s p 0)) f s
 
+-- two readings that find the same, and behind them readings that find the same
+pub bind-same : {A B : Type 0} (p q : Reading A) (f g : A → Reading B) (s : List ℕ) → run p s ≡ run q s → ((a : A) → run (f a) s ≡ run (g a) s)
+    → run (p >>= f) s ≡ run (q >>= g) s
+unfolding then
+bind-same {A} p q f g s e h = run-bind p f s ∙ ap (λ o. then o (λ a. run (f a) s)) e ∙ go (run q s) ∙ sym (run-bind q g s)
+  where
+    go : (o : Outcome A) → then o (λ a. run (f a) s) ≡ then o (λ a. run (g a) s)
+    go (done a) = h a
+    go (refused r) = refl
+
 -- one law for every width
 pub finds-number : (w p : ℕ) (s : List ℕ) → run (number w p) s ≡ done (le w s p)
 unfolding run number le then _>>=_
@@ -73,6 +91,12 @@ pub run-got : {A : Type 0} (a : A) (s : List ℕ) → run (got a) s ≡ done a
 unfolding run
 run-got a s = refl
 
+pub run-demand : {A : Type 0} (t : Bool) (r : ℕ → Refusal) (k : Reading A) (s : List ℕ)
+    → run (demand t r k) s ≡ choose t (run k s) (refused (r (length s)))
+unfolding run demand
+run-demand true r k s = refl
+run-demand false r k s = refl
+
 -- where there is room, and where not; where a test holds, and where not
 module _ {A : Type 0} (r : ℕ → Refusal) (k : Reading A) (s : List ℕ) where
   pub run-room : (e : ℕ) → e ≤ length s → run (room e r k) s ≡ run k s
@@ -91,6 +115,15 @@ module _ {A : Type 0} (r : ℕ → Refusal) (k : Reading A) (s : List ℕ) where
   unfolding run demand
   run-fails t h = rw h
 
+-- what is found behind a test of room goes by what is found where there is room
+pub same-room : {A : Type 0} (e : ℕ) (r : ℕ → Refusal) (k l : Reading A) (s : List ℕ) → (e ≤ length s → run k s ≡ run l s) → run (room e r k) s ≡ run (room e r l) s
+unfolding run
+same-room e r k l s h = go (leb e (length s)) refl
+  where
+    go : (t : Bool) → leb e (length s) ≡ t → choose t (run k s) (refused (r (length s))) ≡ choose t (run l s) (refused (r (length s)))
+    go true g = h (leb-true e (length s) g)
+    go false g = refl
+
 -- A loop over `many` keeps the number that is left and the place of the next one. Its invariant says that
 -- what is left decides: the verdict of the rest is that of the whole, and the rest laid from here is the whole.
 module _ {S A : Type 0} (p : S → Reading A) (next : A → S → S) where
@@ -103,55 +136,97 @@ module _ {S A : Type 0} (p : S → Reading A) (next : A → S → S) where
   unfolding many then run
   many-suc n at s a e = simp (run-bind, e)
 
+  -- What the rest tells, with a running state or without: T before a value is T' behind it.
+  told-next : {B : Type 0} (T T' : Outcome (List A) → B) (a : A) → ((vs : List A) → T (done (a ∷ vs)) ≡ T' (done vs)) → ((r : Refusal) → T (refused r) ≡ T' (refused r))
+      → (o : Outcome (List A)) → T (then o (λ vs. done (a ∷ vs))) ≡ T' o
+  unfolding then
+  told-next T T' a f g (done vs) = f vs
+  told-next T T' a f g (refused r) = g r
+
+  pub told-more : {B : Type 0} (T T' : Outcome (List A) → B) (left : ℕ) (at : S) (s : List ℕ) (a : A)
+      → ((vs : List A) → T (done (a ∷ vs)) ≡ T' (done vs)) → ((r : Refusal) → T (refused r) ≡ T' (refused r)) → 0 < left → run (p at) s ≡ done a
+      → T (run (many p next left at) s) ≡ T' (run (many p next (left - 1) (next a at)) s)
+  told-more T T' left at s a f g h e =
+      ap (λ n. T (run (many p next n at) s)) (more h) ∙ ap T (many-suc (left - 1) at s a e) ∙ told-next T T' a f g _
+
+  pub many-refused : (left : ℕ) (at : S) (s : List ℕ) (r : Refusal) → 0 < left → run (p at) s ≡ refused r → run (many p next left at) s ≡ refused r
+  unfolding many then
+  many-refused left at s r h e = rw (more h) (simp (run-bind, e))
+
+  pub many-empty : (left : ℕ) (at : S) (s : List ℕ) → left ≤ 0 → run (many p next left at) s ≡ done []
+  unfolding many run
+  many-empty left at s h = let c : left ≡ 0 = omega arith in rw c
+
   -- the value before the rest changes no verdict
   same-verdict : (a : A) (o : Outcome (List A)) → verdict (then o (λ vs. done (a ∷ vs))) ≡ verdict o
-  unfolding then
-  same-verdict a (done vs) = refl
-  same-verdict a (refused r) = refl
+  same-verdict a = told-next verdict verdict a (λ vs. refl) (λ r. refl)
 
   pub many-more : (left : ℕ) (at : S) (s : List ℕ) (a : A) → 0 < left → run (p at) s ≡ done a
       → verdict (run (many p next left at) s) ≡ verdict (run (many p next (left - 1) (next a at)) s)
-  many-more left at s a h e =
-      ap (λ n. verdict (run (many p next n at) s)) (more h) ∙ ap verdict (many-suc (left - 1) at s a e) ∙ same-verdict a _
+  many-more left at s a = told-more verdict verdict left at s a (λ vs. refl) (λ r. refl)
 
   pub many-stop : (left : ℕ) (at : S) (s : List ℕ) (r : Refusal) → 0 < left → run (p at) s ≡ refused r
       → verdict (run (many p next left at) s) ≡ verdicts.Refused r
-  unfolding many then
-  many-stop left at s r h e = rw (more h) (simp (run-bind, e))
+  many-stop left at s r h e = ap verdict (many-refused left at s r h e)
 
   pub many-none : (left : ℕ) (at : S) (s : List ℕ) → left ≤ 0 → verdict (run (many p next left at) s) ≡ verdicts.Fine
+  many-none left at s h = ap verdict (many-empty left at s h)
+
+  -- the values of the whole are the one that was read and those of the rest
+  pub values-more : (left : ℕ) (at : S) (s : List ℕ) (a : A) → 0 < left → run (p at) s ≡ done a → verdict (run (many p next left at) s) ≡ verdicts.Fine
+      → values (run (many p next left at) s) ≡ a ∷ values (run (many p next (left - 1) (next a at)) s)
+  unfolding then
+  values-more left at s a h e v =
+      ap (λ n. values (run (many p next n at) s)) (more h) ∙ ap values (many-suc (left - 1) at s a e)
+      ∙ go (run (many p next (left - 1) (next a at)) s) (sym (many-more left at s a h e) ∙ v)
+    where
+      go : (o : Outcome (List A)) → verdict o ≡ verdicts.Fine → values (then o (λ vs. done (a ∷ vs))) ≡ a ∷ values o
+      go (done vs) w = refl
+      go (refused r) w = absurd (not-fine r w)
+
+  pub values-none : (left : ℕ) (at : S) (s : List ℕ) → left ≤ 0 → values (run (many p next left at) s) ≡ []
+  values-none left at s h = ap values (many-empty left at s h)
+
+  -- A filler whose words go by a running state: W gives the words of the values from a state on, W' from the next state on.
+  pub fill-more : (W W' : List A → List ℕ) (ws s area area' : List ℕ) (left : ℕ) (at : S) (to : ℕ) (a : A) → ((vs : List A) → W (a ∷ vs) ≡ ws ++ W' vs)
+      → area' ≡ laid area to ws → 0 < left → run (p at) s ≡ done a → verdict (run (many p next left at) s) ≡ verdicts.Fine
+      → laid area to (W (values (run (many p next left at) s))) ≡ laid area' (to + length ws) (W' (values (run (many p next (left - 1) (next a at)) s)))
+  fill-more W W' ws s area area' left at to a f ea h e v =
+      ap (λ vs. laid area to (W vs)) (values-more left at s a h e v)
+      ∙ ap (laid area to) (f _)
+      ∙ laid-more area to ws _
+      ∙ ap (λ l. laid l (to + length ws) (W' (values (run (many p next (left - 1) (next a at)) s)))) (sym ea)
+
+  -- where no single one is ever refused, all of them are fine
+  pub many-fine : (s : List ℕ) → ((at : S) → (a : A) × (run (p at) s ≡ done a)) → (n : ℕ) (at : S) → verdict (run (many p next n at) s) ≡ verdicts.Fine
   unfolding many run
-  many-none left at s h = let c : left ≡ 0 = omega arith in rw c
+  many-fine s h zero at = refl
+  many-fine s h (suc n) at = ap verdict (many-suc n at s (h at .0) (h at .1)) ∙ same-verdict (h at .0) _ ∙ many-fine s h n (next (h at .0) at)
+
+  pub fill-none : (W : List A → List ℕ) (s area : List ℕ) (left : ℕ) (at : S) (to : ℕ) → W [] ≡ [] → left ≤ 0 → laid area to (W (values (run (many p next left at) s))) ≡ area
+  unfolding laid
+  fill-none W s area left at to n h = ap (λ vs. laid area to (W vs)) (values-none left at s h) ∙ ap (laid area to) n
 
   module _ (words : A → List ℕ) where
     -- the area once the rest is laid from here
     abbrev pub rest : List ℕ → List ℕ → ℕ → S → ℕ → List ℕ
     rest s area left at to = laid area to (flat words (values (run (many p next left at) s)))
 
-    laid-rest : (area : List ℕ) (to : ℕ) (a : A) (o : Outcome (List A)) → verdict o ≡ verdicts.Fine
-        → laid area to (flat words (values (then o (λ vs. done (a ∷ vs))))) ≡ laid (laid area to (words a)) (to + length (words a)) (flat words (values o))
-    unfolding then flat
-    laid-rest area to a (done vs) w = laid-more area to (words a) (flat words vs)
-    laid-rest area to a (refused r) w = absurd (let z : _≡_ {A = ℕ} 0 1 = cc in omega arith)
-
     pub rest-more : (s area area' : List ℕ) (left : ℕ) (at : S) (to : ℕ) (a : A) → area' ≡ laid area to (words a) → 0 < left → run (p at) s ≡ done a
         → verdict (run (many p next left at) s) ≡ verdicts.Fine
         → rest s area left at to ≡ rest s area' (left - 1) (next a at) (to + length (words a))
-    rest-more s area area' left at to a ea h e v =
-        ap (λ n. rest s area n at to) (more h)
-        ∙ ap (λ o. laid area to (flat words (values o))) (many-suc (left - 1) at s a e)
-        ∙ laid-rest area to a _ (sym (many-more left at s a h e) ∙ v)
-        ∙ ap (λ l. rest s l (left - 1) (next a at) (to + length (words a))) (sym ea)
+    unfolding flat
+    rest-more s area area' left at to a = fill-more (flat words) (flat words) (words a) s area area' left at to a (λ vs. refl)
 
     pub rest-none : (s area : List ℕ) (left : ℕ) (at : S) (to : ℕ) → left ≤ 0 → rest s area left at to ≡ area
-    unfolding many run flat laid
-    rest-none s area left at to h = let c : left ≡ 0 = omega arith in rw c
+    unfolding flat
+    rest-none s area left at to = fill-none (flat words) s area left at to refl
 
   -- one value more than the rest has
   one-more : (a : A) (o : Outcome (List A)) (n : ℕ) → verdict o ≡ verdicts.Fine → length (values o) ≡ n → length (values (then o (λ vs. done (a ∷ vs)))) ≡ suc n
   unfolding then
   one-more a (done vs) n v h = ap suc h
-  one-more a (refused r) n v h = absurd (let z : _≡_ {A = ℕ} 0 1 = cc in omega arith)
+  one-more a (refused r) n v h = absurd (not-fine r v)
 
   -- as many values as were asked for
   pub many-length : (n : ℕ) (at : S) (s : List ℕ) → verdict (run (many p next n at) s) ≡ verdicts.Fine → length (values (run (many p next n at) s)) ≡ n
@@ -161,12 +236,18 @@ module _ {S A : Type 0} (p : S → Reading A) (next : A → S → S) where
     where
       go : ((at' : S) → verdict (run (many p next n at') s) ≡ verdicts.Fine → length (values (run (many p next n at') s)) ≡ n)
           → (o : Outcome A) → run (p at) s ≡ o → length (values (run (many p next (suc n) at) s)) ≡ suc n
-      go ih (refused r) e =
-          let w : verdicts.Refused r ≡ verdicts.Fine = sym (many-stop (suc n) at s r (omega arith) e) ∙ v in
-          absurd (let z : _≡_ {A = ℕ} 0 1 = cc in omega arith)
+      go ih (refused r) e = absurd (not-fine r (sym (many-stop (suc n) at s r (omega arith) e) ∙ v))
       go ih (done a) e =
           let w : verdict (run (many p next n (next a at)) s) ≡ verdicts.Fine = sym (ap verdict (many-suc n at s a e) ∙ same-verdict a _) ∙ v in
           ap (λ o. length (values o)) (many-suc n at s a e) ∙ one-more a _ n w (ih (next a at) w)
+
+-- readings that find the same at each state that P holds of, repeated
+pub many-same : {S A : Type 0} (p q : S → Reading A) (next : A → S → S) (P : S → Type 0) (s : List ℕ) → ((at : S) → P at → run (p at) s ≡ run (q at) s)
+    → ((a : A) (at : S) → P at → P (next a at)) → (n : ℕ) (at : S) → P at → run (many p next n at) s ≡ run (many q next n at) s
+unfolding many
+many-same p q next P s h g zero at i = refl
+many-same p q next P s h g (suc n) at i =
+    bind-same _ _ _ _ s (h at i) (λ a. bind-same _ _ _ _ s (many-same p q next P s h g n (next a at) (g a at i)) (λ vs. refl))
 
 pub length-flat : {A : Type 0} (words : A → List ℕ) (w : ℕ) → ((a : A) → length (words a) ≡ w) → (vs : List A) → length (flat words vs) ≡ w * length vs
 unfolding flat

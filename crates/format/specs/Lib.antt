@@ -24,5 +24,7 @@ pub mod Examples
 pub mod Order
 pub mod Determined
 pub mod Said
+pub mod Ends
+pub mod Until
 pub mod Rested
 pub mod Block

@@ -155,7 +155,7 @@ module _ (s : List ℕ) where
   finds-inside blob-end p x h g = finds-room g
   finds-inside (until e) p x h g = finds-demand (leb p e) x (λ t. g (omega (arith, leb-true p e t)))
 
-  end-asks : (k at : ℕ) (h : Header) → Finds (tableEnd k at h) s (λ e ps. ([] ≡ ps) × (at + header-length k + stride k * h .count ≤ length s))
+  pub end-asks : (k at : ℕ) (h : Header) → Finds (tableEnd k at h) s (λ e ps. ([] ≡ ps) × (at + header-length k + stride k * h .count ≤ length s))
   unfolding tableEnd
   end-asks k at h =
       finds-choose (eqb (h .size) 0) (λ e. finds-room (λ w. finds-got (refl, w)))

@@ -51,15 +51,10 @@ itemsAt size (items.At t) = got t
 itemsAt size (items.Before b) = stop (λ n. itemsSays size n (items.Before b))
 itemsAt size (items.Past t) = stop (λ n. itemsSays size n (items.Past t))
 
--- "BinXML runs from TEMP byte 40 to the items; items below 40 give length 0, start still TEMP + 40."
-unfoldable pub templateAt : Region → ℕ → Reading Template
-templateAt region at =
-    inside region (at + 40) (λ n. truncated TEMP-header at 40 (end n region)) (
-    number 4 at >>= λ found.
-    demand (eqb found TEMP) (wrong-signature at TEMP found) (
-    number 4 (at + 4) >>= λ size.
-    demand (leb 40 size) (size-out TEMP-size at size) (
-    inside region (at + size) (size-out TEMP-size at size) (
+-- the fields of a TEMP whose size is right. "BinXML runs from TEMP byte 40 to the items; items below 40 give length 0, start still
+-- TEMP + 40."
+abbrev pub templateFields : (at size : ℕ) → Reading Template
+templateFields at size =
     number 4 (at + 8) >>= λ descriptors. number 4 (at + 12) >>= λ names. number 4 (at + 16) >>= λ offset. number 4 (at + 20) >>= λ event.
     guidAt (at + 24) >>= λ guid.
     demand (not (eqb descriptors 0) || eqb names 0) (count-out TEMP-item-name-count-expected-0 (at + 12) names) (
@@ -74,7 +69,16 @@ templateAt region at =
       guid = guid;
       start = at + 40;
       length = t .0 - 40;
-    }))))))
+    }))
+
+unfoldable pub templateAt : Region → ℕ → Reading Template
+templateAt region at =
+    inside region (at + 40) (λ n. truncated TEMP-header at 40 (end n region)) (
+    number 4 at >>= λ found.
+    demand (eqb found TEMP) (wrong-signature at TEMP found) (
+    number 4 (at + 4) >>= λ size.
+    demand (leb 40 size) (size-out TEMP-size at size) (
+    inside region (at + size) (size-out TEMP-size at size) (templateFields at size))))
 
 -- the next TEMP stands behind this one
 abbrev pub next : Template → ℕ → ℕ

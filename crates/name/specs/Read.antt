@@ -1,17 +1,25 @@
 -- What the answer for a name tells of its reading.
 use Prim.Native.Nat.{ℕ}
 use mathlib.Core.Path.{_≡_}
+use mathlib.Core.List.{List}
 use native.Mathlib.Omega.{arith}
 use Rattle.blob.specs.declared.Refusal.{Refusal}
-use Rattle.blob.specs.Reading.{Outcome, done, refused}
-use Rattle.format.specs.Name.{nameRead}
+use Rattle.blob.specs.Reading.{Outcome, done, refused, run}
+use Rattle.format.specs.Name.{nameAt, nameRead}
 use Rattle.format.specs.declared.Name.{Name}
 use Rattle.format.specs.declared.NameRead.the-variants as read
 
-pub is-name : (o : Outcome Name) (n : Name) → read.Name n ≡ nameRead o → o ≡ done n
-is-name (done m) n h = cc
-is-name (refused q) n h = absurd (let z : _≡_ {A = ℕ} 0 1 = cc in omega arith)
+module _ (f o : ℕ) (s : List ℕ) where
+  pub is-name : (n : Name) → read.Name n ≡ nameRead (run (nameAt f o) s) → run (nameAt f o) s ≡ done n
+  is-name n h = go (run (nameAt f o) s) h
+    where
+      go : (x : Outcome Name) → read.Name n ≡ nameRead x → x ≡ done n
+      go (done m) g = cc
+      go (refused r) g = absurd (let z : _≡_ {A = ℕ} 0 1 = cc in omega arith)
 
-pub is-refused : (o : Outcome Name) (r : Refusal) → read.Refused r ≡ nameRead o → o ≡ refused r
-is-refused (done n) r h = absurd (let z : _≡_ {A = ℕ} 0 1 = cc in omega arith)
-is-refused (refused q) r h = cc
+  pub is-refused : (r : Refusal) → read.Refused r ≡ nameRead (run (nameAt f o) s) → run (nameAt f o) s ≡ refused r
+  is-refused r h = go (run (nameAt f o) s) h
+    where
+      go : (x : Outcome Name) → read.Refused r ≡ nameRead x → x ≡ refused r
+      go (done m) g = absurd (let z : _≡_ {A = ℕ} 0 1 = cc in omega arith)
+      go (refused q) g = cc

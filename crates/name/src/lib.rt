@@ -6,6 +6,7 @@ ghost use lib.ListN.{length};
 ghost use Rattle.blob.specs.Le.{le};
 ghost use Rattle.blob.specs.Reading.{run};
 ghost use Rattle.format.specs.Name.{text, nameAt, nameRead};
+ghost use Rattle.format.specs.Name as spec;
 ghost use Rattle.name.specs.Text.{pairs};
 use format::Name;
 use format::NameRead;
@@ -67,17 +68,24 @@ fn units(b: &[u8], field: u8, offset: u32, n: u32) -> NameRead
     })
 }
 
+// No name.
+pub fn absent() -> Name
+    ensures { λ r. ⌜ r ≡ spec.absent ⌝ }
+{
+    Name {
+        start: 0,
+        units: 0,
+        ended: false,
+    }
+}
+
 // The name at an offset. The callers test the blob's length first, so that a text's start fits 32 bits.
 pub fn name_at(b: &[u8], field: u8, offset: u32) -> NameRead
     requires { ⌜ length (now b) ≤ 16777216 ⌝ }
     ensures { λ r. ⌜ r ≡ nameRead (run (nameAt field offset) (now (b .entry))) ⌝ }
 {
     if offset == 0 {
-        return NameRead::Name(Name {
-            start: 0,
-            units: 0,
-            ended: false,
-        });
+        return NameRead::Name(absent());
     }
     let at = offset as usize;
     if b.len() < at {

@@ -1,15 +1,20 @@
 -- Each return cites the law of the test that led there.
+use mathlib.Core.Path.{ap}
 use native.Mathlib.Omega.{arith}
 use borrow.Author.Needs.{needs}
 use Rattle.blob.specs.Reading.{run}
 use Rattle.format.specs.Name.{nameAt}
+use Rattle.format.specs.declared.NameRead.the-variants as read
 use Rattle.name.specs.Sized.{found, refuses, sized-past, sized-cut, sized-small, sized-short, sized-odd, sized-text}
 use Rattle.name.proofs.name_at.Statement.{statement}
 use Rattle.name.proofs.name_at.Tie as tie
 
+absent-requires : tie.Need-absent-requires
+absent-requires c κs = search needs
+
 returns : tie.Need-returns
 unfolding run nameAt
-returns c = rw (c .if1 .taken)
+returns c = rw (c .before .if1 .taken) (ap read.Name (c .absent .ensures))
 
 offset-out-requires : tie.Need-offset-out-requires
 offset-out-requires c κs = search needs
@@ -70,6 +75,7 @@ pub name-at-spec : {M : Type 1} → statement M
 name-at-spec =
     tie.close
     (tie.spec
+    absent-requires
     returns
     offset-out-requires
     returns-2

@@ -1,0 +1,4 @@
+pub mod Until
+pub mod Decides
+pub mod Listed
+pub mod Next

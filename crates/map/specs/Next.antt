@@ -1,0 +1,113 @@
+-- One map more: what it makes of the maps that are left, of the count of entries, and of the words of lists 7 and 8.
+use Prim.Native.Nat.{ℕ, _+_, _-_, _*_, _≤_, _<_}
+use mathlib.Core.Path.{_≡_, refl, ap, sym, _∙_}
+use mathlib.Core.List.{List, [], _∷_, _++_}
+use native.Mathlib.Omega.{arith}
+use lib.ListN.{length}
+use Rattle.blob.specs.declared.Refusal.{Refusal}
+use Rattle.blob.specs.declared.Verdict.the-variants as verdicts
+use Rattle.blob.specs.Laid.{laid, flat}
+use Rattle.blob.specs.Reading.{Outcome, done, refused, run, many, verdict, values}
+use Rattle.blob.specs.Laws.{not-fine, many-more, many-stop, many-length, values-more, fill-more, told-more, length-flat}
+use Rattle.format.specs.Definition.{step}
+use Rattle.format.specs.Map.{Mapped, entryAt, mapRead}
+use Rattle.format.specs.Needs.{capped, entryCount, mapsRead}
+use Rattle.format.specs.Lists.{mapWords, mapEntryWords, mapList}
+use Rattle.format.specs.declared.Map.{Map}
+use Rattle.format.specs.declared.MapRead.the-variants as read
+use Rattle.format.specs.declared.MapsRead.{MapsRead}
+use Rattle.format.specs.declared.MapsRead.the-variants as maps
+use Rattle.map.specs.Decides.{entries, entries-fine, Told, is-map, is-refused}
+use Rattle.map.specs.Listed.{listedAt, listed-told}
+
+-- what reading the maps that are left finds
+abbrev pub unread : (e start first : ℕ) → List ℕ → (left place : ℕ) → Outcome (List Mapped)
+unread e start first s left place = run (many (listedAt e start first) (step 4) left place) s
+
+-- the words of some maps, where so many entries were stored before, and those of their entries
+abbrev pub mapsWords : ℕ → List Mapped → List ℕ
+mapsWords n ms = flat (λ e. e) (mapList n ms)
+
+abbrev pub entriesWords : List Mapped → List ℕ
+entriesWords ms = flat (λ m. flat mapEntryWords (m .entries)) ms
+
+-- what the code answers once so many entries were counted
+abbrev pub countedFrom : ℕ → Outcome (List Mapped) → MapsRead
+countedFrom n (done ms) = maps.Entries (capped (n + entryCount ms))
+countedFrom n (refused r) = maps.Refused r
+
+pub counted-all : (o : Outcome (List Mapped)) → mapsRead o ≡ countedFrom 0 o
+counted-all (done ms) = ap maps.Entries (omega arith)
+counted-all (refused r) = refl
+
+pub counted-none : (n : ℕ) → n ≤ 65537 → countedFrom n (done []) ≡ maps.Entries n
+unfolding entryCount
+counted-none n h = ap maps.Entries (omega arith)
+
+-- the words of a map come before those of others
+one-map : (n : ℕ) (x : Map) (m : Mapped) → x ≡ m .map → length (m .entries) ≡ m .map .count → (ms : List Mapped)
+    → mapsWords n (m ∷ ms) ≡ mapWords n x ++ mapsWords (n + x .count) ms
+unfolding flat mapList
+one-map n x m p q ms = rw (p, q)
+
+told-count : (s : List ℕ) (m : Mapped) → Told s m → length (m .entries) ≡ m .map .count
+told-count s m t = ap length (t .entries) ∙ many-length entryAt (step 8) _ _ s (entries-fine _ _ s)
+
+module _ (e start first : ℕ) (s : List ℕ) (left place : ℕ) (h : 0 < left) where
+  pub never-refused : (r : Refusal) → read.Refused r ≡ mapRead (run (listedAt e start first place) s) → verdict (unread e start first s left place) ≡ verdicts.Fine → ⊥
+  never-refused r f v =
+      not-fine r (sym (many-stop (listedAt e start first) (step 4) left place s r h (is-refused _ r f)) ∙ v)
+
+  module _ (i : e ≤ length s) (x : Map) (f : read.Map x ≡ mapRead (run (listedAt e start first place) s)) where
+    -- the map that was read
+    abbrev m : Mapped
+    m = is-map (run (listedAt e start first place) s) x f .0
+
+    found : run (listedAt e start first place) s ≡ done m
+    found = is-map (run (listedAt e start first place) s) x f .1
+
+    same-map : x ≡ m .map
+    same-map = is-map (run (listedAt e start first place) s) x f .2
+
+    told : Told s m
+    told = listed-told e start first place s i m found
+
+    -- its entries, as its fields tell them
+    its-entries : m .entries ≡ values (run (entries (x .count) (x .offset + 16)) s)
+    its-entries = told .entries ∙ ap (λ (y : Map). values (run (entries (y .count) (y .offset + 16)) s)) (sym same-map)
+
+    its-count : length (m .entries) ≡ x .count
+    its-count = told-count s m told ∙ ap (λ (y : Map). y .count) (sym same-map)
+
+    pub next-inside : 8 * x .count ≤ length s - (x .offset + 16)
+    next-inside = rw same-map (told .inside)
+
+    pub next-counted : (n r : ℕ) → r ≡ capped (n + x .count)
+        → countedFrom n (unread e start first s left place) ≡ countedFrom r (unread e start first s (left - 1) (place + 4))
+    unfolding entryCount
+    next-counted n r q =
+        told-more (listedAt e start first) (step 4) (countedFrom n) (countedFrom r) left place s m (λ ms. ap maps.Entries (omega (arith, its-count))) (λ r. refl) h found
+
+    module _ (v : verdict (unread e start first s left place) ≡ verdicts.Fine) where
+      pub next-fine : verdict (unread e start first s (left - 1) (place + 4)) ≡ verdicts.Fine
+      next-fine = sym (many-more (listedAt e start first) (step 4) left place s m h found) ∙ v
+
+      pub next-count : entryCount (values (unread e start first s left place)) ≡ x .count + entryCount (values (unread e start first s (left - 1) (place + 4)))
+      unfolding entryCount
+      next-count = ap entryCount (values-more (listedAt e start first) (step 4) left place s m h found v) ∙ rw its-count
+
+      pub next-maps : (n : ℕ) (area area' : List ℕ) (to : ℕ) → area' ≡ laid area to (mapWords n x)
+          → laid area to (mapsWords n (values (unread e start first s left place)))
+          ≡ laid area' (to + 11) (mapsWords (n + x .count) (values (unread e start first s (left - 1) (place + 4))))
+      next-maps n area area' to q =
+          fill-more (listedAt e start first) (step 4) (mapsWords n) (mapsWords (n + x .count)) (mapWords n x) s area area' left place to m
+          (one-map n x m same-map (told-count s m told)) q h found v
+
+      pub next-entries : (area area' : List ℕ) (to : ℕ) → area' ≡ laid area to (flat mapEntryWords (values (run (entries (x .count) (x .offset + 16)) s)))
+          → laid area to (entriesWords (values (unread e start first s left place)))
+          ≡ laid area' (to + 2 * x .count) (entriesWords (values (unread e start first s (left - 1) (place + 4))))
+      unfolding flat
+      next-entries area area' to q =
+          fill-more (listedAt e start first) (step 4) entriesWords entriesWords (flat mapEntryWords (m .entries)) s area area' left place to m
+          (λ ms. refl) (q ∙ rw (← its-entries)) h found v
+          ∙ rw (length-flat mapEntryWords 2 (λ w. refl) (m .entries), its-count)

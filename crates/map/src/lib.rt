@@ -1,0 +1,347 @@
+// MAPS: the reader of a map, the check of a MAPS with its count of entries, and the fillers of lists 7 and 8.
+ghost use mathlib.Core.Path.{_≡_};
+ghost use Prim.Native.Nat.{_+_, _-_, _*_, _≤_, min};
+ghost use lib.Dec.{eqb};
+ghost use lib.ListN.{length};
+ghost use Rattle.blob.specs.Laid.{laid, flat};
+ghost use Rattle.blob.specs.Reading.{run, verdict, values, choose};
+ghost use Rattle.format.specs.Field.{VMAP-map-string};
+ghost use Rattle.format.specs.Region.{until};
+ghost use Rattle.format.specs.Map.{valueMapAt, otherMap, mapAt, mapsAt, mapRead};
+ghost use Rattle.format.specs.Needs.{capped, entryCount, mapsRead};
+ghost use Rattle.format.specs.Lists.{mapWords, mapEntryWords, mapList};
+ghost use Rattle.format.specs.Name as name;
+ghost use Rattle.format.specs.Name.{nameAt};
+ghost use Rattle.map.specs.Decides.{valueMap, namedMap, entry, entries};
+ghost use Rattle.map.specs.Listed.{listedAt, listed};
+use blob::Refusal;
+use blob::Verdict;
+use format::EndRead;
+use format::Header;
+use format::Map;
+use format::MapRead;
+use format::MapsRead;
+use format::Name;
+use format::NameRead;
+use name::absent;
+
+// Field codes, as in format's Field.
+const MAPS_SIZE: u8 = 54;
+
+const MAPS_OFFSETS_ARRAY: u8 = 90;
+
+const MAPS_MAP_OFFSET: u8 = 92;
+
+const MAPS_MAP_SIGNATURE: u8 = 93;
+
+const VMAP_SIZE_FIELD: u8 = 94;
+
+const VMAP_HEADER: u8 = 95;
+
+const VMAP_SIZE: u8 = 96;
+
+const VMAP_ENTRIES_ARRAY: u8 = 99;
+
+const VMAP_MAP_STRING: u8 = 102;
+
+// Signatures, as little-endian numbers.
+const VMAP: u32 = 0x50414D56;
+
+const BMAP: u32 = 0x50414D42;
+
+// How many of so many bytes from a place on lie before an end.
+fn cut(most: u32, at: usize, end: usize) -> u32
+    ensures { λ r. ⌜ r ≡ min most (end - at) ⌝ }
+{
+    if end < at {
+        return 0;
+    }
+    if end - at < most as usize {
+        return (end - at) as u32;
+    }
+    most
+}
+
+// The one where two words are the same, else the other.
+fn pick(x: u32, y: u32, one: u32, other: u32) -> u32
+    ensures { λ r. ⌜ r ≡ choose (eqb x y) one other ⌝ }
+{
+    if x == y {
+        return one;
+    }
+    other
+}
+
+// A VMAP whose entries its size holds.
+fn value_map(at: usize, size: u32, string: u32, count: u32, name: Name) -> Map
+    requires { ⌜ (at + size ≤ 16777216) × (16 + 8 * count ≤ size) ⌝ }
+    ensures { λ r. ⌜ r ≡ valueMap at size string count name ⌝ }
+{
+    let offset = at as u32;
+    Map {
+        kind: 1,
+        signature: VMAP,
+        offset,
+        size,
+        string,
+        name,
+        count,
+        start: offset + 16 + 8 * count,
+        length: size - (16 + 8 * count),
+    }
+}
+
+// The same with the name that its string offset tells.
+fn named_map(b: &[u8], at: usize, size: u32, string: u32, count: u32) -> MapRead
+    requires { ⌜ (at + size ≤ length (now b)) × (length (now b) ≤ 16777216) × (16 + 8 * count ≤ size) ⌝ }
+    ensures { λ r. ⌜ r ≡ namedMap at size string count (run (nameAt VMAP-map-string string) (now (b .entry))) ⌝ }
+{
+    match name::name_at(b, VMAP_MAP_STRING, string) {
+        NameRead::Name(name) => MapRead::Map(value_map(at, size, string, count, name)),
+        NameRead::Refused(r) => MapRead::Refused(r),
+    }
+}
+
+// The VMAP at a place where a signature stands.
+fn value_map_at(b: &[u8], end: usize, at: usize) -> MapRead
+    requires { ⌜ (at + 4 ≤ length (now b)) × (end ≤ length (now b)) × (length (now b) ≤ 16777216) ⌝ }
+    ensures { λ r. ⌜ r ≡ mapRead (run (valueMapAt (until end) at) (now (b .entry))) ⌝ }
+{
+    if b.len() - at < 8 {
+        return MapRead::Refused(bounds::truncated(b, VMAP_SIZE_FIELD, at, 8));
+    }
+    let size = blob::word(b, at + 4);
+    let bytes = cut(size, at, end);
+    if bytes < 16 {
+        return MapRead::Refused(Refusal {
+            code: 1,
+            field: VMAP_HEADER,
+            place: at as u64,
+            first: 16,
+            second: bytes as u64,
+        });
+    }
+    if bytes < size {
+        return MapRead::Refused(bounds::size_out(VMAP_SIZE, at, size));
+    }
+    let string = blob::word(b, at + 8);
+    let count = blob::word(b, at + 12);
+    if (size as usize) < 16 + 8 * (count as usize) {
+        return MapRead::Refused(bounds::size_out(VMAP_ENTRIES_ARRAY, at, size));
+    }
+    named_map(b, at, size, string, count)
+}
+
+// A map that is no VMAP.
+fn other_map(end: usize, at: usize, signature: u32) -> Map
+    requires { ⌜ at ≤ 16777216 ⌝ }
+    ensures { λ r. ⌜ r ≡ otherMap (until end) at signature .map ⌝ }
+{
+    Map {
+        kind: pick(signature, BMAP, 2, 3),
+        signature,
+        offset: at as u32,
+        size: 0,
+        string: 0,
+        name: absent(),
+        count: 0,
+        start: at as u32,
+        length: cut(4, at, end),
+    }
+}
+
+// The map at a place, in a region that ends at `end`.
+pub fn map_at(b: &[u8], end: usize, at: usize) -> MapRead
+    requires { ⌜ (end ≤ length (now b)) × (length (now b) ≤ 16777216) ⌝ }
+    ensures { λ r. ⌜ r ≡ mapRead (run (mapAt (until end) at) (now (b .entry))) ⌝ }
+{
+    if b.len() < at {
+        return MapRead::Refused(bounds::offset_out(b, MAPS_MAP_OFFSET, at));
+    }
+    if b.len() - at < 4 {
+        return MapRead::Refused(bounds::truncated(b, MAPS_MAP_SIGNATURE, at, 4));
+    }
+    let signature = blob::word(b, at);
+    if signature == VMAP {
+        return value_map_at(b, end, at);
+    }
+    MapRead::Map(other_map(end, at, signature))
+}
+
+// The map whose offset word stands at a place. The offsets start behind a word that is not read: it stands for map 0, which comes first
+// behind the offsets.
+fn listed_at(b: &[u8], end: usize, start: usize, first: usize, place: usize) -> MapRead
+    requires { ⌜ (end ≤ length (now b)) × (place + 4 ≤ length (now b)) × (length (now b) ≤ 16777216) ⌝ }
+    ensures { λ r. ⌜ r ≡ mapRead (run (listedAt end start first place) (now (b .entry))) ⌝ }
+{
+    if place == start {
+        return map_at(b, end, first);
+    }
+    map_at(b, end, blob::word(b, place) as usize)
+}
+
+// So many entries and some more, as far as anyone asks.
+fn sum(entries: u32, more: u32) -> u32
+    requires { ⌜ entries ≤ 65537 ⌝ }
+    ensures { λ r. ⌜ r ≡ capped (entries + more) ⌝ }
+{
+    if 65537 - entries < more {
+        return 65537;
+    }
+    entries + more
+}
+
+// How many entries the maps have, n offsets from `start` on, the first of them that of map 0.
+fn counted(b: &[u8], end: usize, start: usize, n: u32) -> MapsRead
+    requires { ⌜ (end ≤ length (now b)) × (start + 4 * n ≤ length (now b)) × (length (now b) ≤ 16777216) ⌝ }
+    ensures { λ r. ⌜ r ≡ mapsRead (run (listed end start n) (now (b .entry))) ⌝ }
+{
+    let first = start + 4 * (n as usize);
+    let mut place = start;
+    let mut left = n;
+    let mut entries = 0;
+    while 0 < left {
+        match listed_at(b, end, start, first, place) {
+            MapRead::Refused(r) => return MapsRead::Refused(r),
+            MapRead::Map(m) => entries = sum(entries, m.count),
+        }
+        place += 4;
+        left -= 1;
+    }
+    MapsRead::Entries(entries)
+}
+
+// Whether the MAPS whose header stands at a place is fine, and how many entries its maps have.
+pub fn check(b: &[u8], at: usize, h: Header) -> MapsRead
+    requires { ⌜ (at + 16 ≤ length (now b)) × (length (now b) ≤ 16777216) ⌝ }
+    ensures { λ r. ⌜ r ≡ mapsRead (run (mapsAt at h) (now (b .entry))) ⌝ }
+{
+    match bounds::region_end(b, MAPS_SIZE, at, h.size, 16) {
+        EndRead::Refused(r) => MapsRead::Refused(r),
+        EndRead::End(end) => {
+            if b.len() < at + 12 + 4 * (h.count as usize) {
+                return MapsRead::Refused(bounds::size_out(MAPS_OFFSETS_ARRAY, at, h.size));
+            }
+            counted(b, end, at + 12, h.count)
+        }
+    }
+}
+
+// Stores a map's words from a place of the area on; so many entries were stored before its own.
+fn put_map(area: &mut [u32], to: usize, before: u32, m: Map)
+    requires { ⌜ to + 11 ≤ length (now area) ⌝ }
+    ensures { λ _. ⌜ now (area .exit) ≡ laid (now (area .entry)) to (mapWords before m) ⌝ }
+{
+    area[to] = m.kind;
+    area[to + 1] = m.signature;
+    area[to + 2] = m.offset;
+    area[to + 3] = m.size;
+    area[to + 4] = m.string;
+    area[to + 5] = m.name.start;
+    area[to + 6] = m.name.units;
+    area[to + 7] = pick(m.kind, 1, before, 0);
+    area[to + 8] = m.count;
+    area[to + 9] = m.start;
+    area[to + 10] = m.length;
+}
+
+// Stores the words of n maps; so many entries were stored before theirs.
+fn put_maps(b: &[u8], end: usize, start: usize, n: u32, before: u32, area: &mut [u32])
+    requires { ⌜ (end ≤ length (now b)) × (start + 4 * n ≤ length (now b)) × (length (now b) ≤ 16777216) ⌝ }
+    requires { ⌜ verdict (run (listed end start n) (now b)) ≡ Verdict.Fine ⌝ }
+    requires { ⌜ 11 * n ≤ length (now area) ⌝ }
+    requires { ⌜ before + entryCount (values (run (listed end start n) (now b))) ≤ 65536 ⌝ }
+    ensures { λ _. ⌜ now (area .exit) ≡ laid (now (area .entry)) 0 (flat (λ e. e) (mapList before (values (run (listed end start n) (now (b .entry)))))) ⌝ }
+{
+    let first = start + 4 * (n as usize);
+    let mut place = start;
+    let mut left = n;
+    let mut entries = before;
+    let mut to = 0;
+    while 0 < left {
+        let MapRead::Map(m) = listed_at(b, end, start, first, place) else {
+            return;
+        };
+        put_map(area, to, entries, m);
+        entries += m.count;
+        place += 4;
+        left -= 1;
+        to += 11;
+    }
+}
+
+// Stores list 7's words of the maps of a MAPS that `check` found fine; so many entries were stored before theirs.
+pub fn fill_maps(b: &[u8], at: usize, h: Header, before: u32, area: &mut [u32])
+    requires { ⌜ (at + 16 ≤ length (now b)) × (length (now b) ≤ 16777216) ⌝ }
+    requires { ⌜ verdict (run (mapsAt at h) (now b)) ≡ Verdict.Fine ⌝ }
+    requires { ⌜ 11 * h .count ≤ length (now area) ⌝ }
+    requires { ⌜ before + entryCount (values (run (mapsAt at h) (now b))) ≤ 65536 ⌝ }
+    ensures { λ _. ⌜ now (area .exit) ≡ laid (now (area .entry)) 0 (flat (λ e. e) (mapList before (values (run (mapsAt at h) (now (b .entry)))))) ⌝ }
+{
+    let EndRead::End(end) = bounds::region_end(b, MAPS_SIZE, at, h.size, 16) else {
+        return;
+    };
+    put_maps(b, end, at + 12, h.count, before, area);
+}
+
+// Stores the words of the entry at a place.
+fn put_entry(b: &[u8], at: usize, area: &mut [u32], to: usize)
+    requires { ⌜ (at + 8 ≤ length (now b)) × (to + 2 ≤ length (now area)) ⌝ }
+    ensures { λ _. ⌜ now (area .exit) ≡ laid (now (area .entry)) to (mapEntryWords (entry (now (b .entry)) at)) ⌝ }
+{
+    let identifier = blob::word(b, at);
+    let message = blob::word(b, at + 4);
+    area[to] = identifier;
+    area[to + 1] = message;
+}
+
+// Stores the words of so many entries from a place on.
+fn put_entries(b: &[u8], start: usize, n: u32, area: &mut [u32], from: usize)
+    requires { ⌜ (8 * n ≤ length (now b) - start) × (from + 2 * n ≤ length (now area)) ⌝ }
+    ensures { λ _. ⌜ now (area .exit) ≡ laid (now (area .entry)) from (flat mapEntryWords (values (run (entries n start) (now (b .entry))))) ⌝ }
+{
+    let mut at = start;
+    let mut left = n;
+    let mut to = from;
+    while 0 < left {
+        put_entry(b, at, area, to);
+        at += 8;
+        left -= 1;
+        to += 2;
+    }
+}
+
+// Stores the words of the entries of n maps.
+fn put_map_entries(b: &[u8], end: usize, start: usize, n: u32, area: &mut [u32])
+    requires { ⌜ (end ≤ length (now b)) × (start + 4 * n ≤ length (now b)) × (length (now b) ≤ 16777216) ⌝ }
+    requires { ⌜ verdict (run (listed end start n) (now b)) ≡ Verdict.Fine ⌝ }
+    requires { ⌜ 2 * entryCount (values (run (listed end start n) (now b))) ≤ length (now area) ⌝ }
+    ensures { λ _. ⌜ now (area .exit) ≡ laid (now (area .entry)) 0 (flat (λ m. flat mapEntryWords (m .entries)) (values (run (listed end start n) (now (b .entry))))) ⌝ }
+{
+    let first = start + 4 * (n as usize);
+    let mut place = start;
+    let mut left = n;
+    let mut to = 0;
+    while 0 < left {
+        let MapRead::Map(m) = listed_at(b, end, start, first, place) else {
+            return;
+        };
+        put_entries(b, m.offset as usize + 16, m.count, area, to);
+        to += 2 * (m.count as usize);
+        place += 4;
+        left -= 1;
+    }
+}
+
+// Stores list 8's words of the maps of a MAPS that `check` found fine.
+pub fn fill_entries(b: &[u8], at: usize, h: Header, area: &mut [u32])
+    requires { ⌜ (at + 16 ≤ length (now b)) × (length (now b) ≤ 16777216) ⌝ }
+    requires { ⌜ verdict (run (mapsAt at h) (now b)) ≡ Verdict.Fine ⌝ }
+    requires { ⌜ 2 * entryCount (values (run (mapsAt at h) (now b))) ≤ length (now area) ⌝ }
+    ensures { λ _. ⌜ now (area .exit) ≡ laid (now (area .entry)) 0 (flat (λ m. flat mapEntryWords (m .entries)) (values (run (mapsAt at h) (now (b .entry))))) ⌝ }
+{
+    let EndRead::End(end) = bounds::region_end(b, MAPS_SIZE, at, h.size, 16) else {
+        return;
+    };
+    put_map_entries(b, end, at + 12, h.count, area);
+}

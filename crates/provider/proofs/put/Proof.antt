@@ -1,0 +1,53 @@
+use borrow.Author.Needs.{needs}
+use native.Mathlib.Nat.{add-assoc}
+use native.Mathlib.Omega.{arith}
+use lib.ListN.{length-set}
+use Rattle.blob.specs.Laid.{laid}
+use Rattle.provider.proofs.put.Statement.{statement}
+use Rattle.provider.proofs.put.Tie as tie
+
+mul-area : tie.Need-mul-area
+mul-area c = search needs
+
+slice-write-area : tie.Need-slice-write-area
+slice-write-area c = search needs
+
+add-area : tie.Need-add-area
+add-area c = search needs
+
+mul-area-2 : tie.Need-mul-area-2
+mul-area-2 c = search needs
+
+slice-write-area-2 : tie.Need-slice-write-area-2
+slice-write-area-2 c = simp length-set (omega arith)
+
+add-area-2 : tie.Need-add-area-2
+add-area-2 c = search needs
+
+mul-area-3 : tie.Need-mul-area-3
+mul-area-3 c = search needs
+
+slice-write-area-3 : tie.Need-slice-write-area-3
+slice-write-area-3 c = simp length-set (omega arith)
+
+same-length : tie.Need-same-length
+same-length c = simp length-set
+
+returns : tie.Need-returns
+unfolding laid
+returns c = simp add-assoc
+
+pub put-spec : {M : Type 1} → statement M
+put-spec =
+    tie.close
+    (tie.spec
+    mul-area
+    slice-write-area
+    add-area
+    mul-area-2
+    slice-write-area-2
+    add-area-2
+    mul-area-3
+    slice-write-area-3
+    same-length
+    returns)

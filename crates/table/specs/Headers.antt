@@ -1,0 +1,94 @@
+-- What a reading of a table's header finds, way by way.
+use Prim.Native.Nat.{ℕ, zero, suc, _+_, _-_, _*_, _≤_, _<_}
+use mathlib.Core.Path.{_≡_}
+use mathlib.Core.List.{List, [], _∷_}
+use native.Mathlib.Nat.{mul-le-mul}
+use native.Mathlib.Omega.{arith}
+use lib.ListN.{length, getD}
+use borrow.Author.Tests.{eq-eqb, ne-eqb, le-leb, lt-leb}
+use Rattle.blob.specs.Le.{le}
+use Rattle.blob.specs.Places.{Each}
+use Rattle.blob.specs.Reading.{done, refused, run}
+use Rattle.blob.specs.Laws.{run-number, run-room, run-past, run-holds, run-fails, run-after, run-stopped}
+use Rattle.format.specs.Field.{table-offset, table-header, table-size, table-array}
+use Rattle.format.specs.Refuse.{offset-out, truncated, wrong-signature, size-out}
+use Rattle.format.specs.Region.{bounded}
+use Rattle.format.specs.Rested.{end-asks}
+use Rattle.blob.specs.declared.Refusal.{Refusal}
+use Rattle.format.specs.declared.Header.{Header}
+use Rattle.format.specs.Table.{signature, header-length, stride, headerAt, tableEnd}
+
+-- what holds of each number of a list holds of the one at a place
+each-getD : (P : ℕ → Type 0) (l : List ℕ) → Each P l → (i : ℕ) → i < length l → P (getD l i 0)
+each-getD P [] h i g = absurd (omega arith)
+each-getD P (x ∷ l) h zero g = h .0
+each-getD P (x ∷ l) h (suc i) g = each-getD P l (h .1) i (omega arith)
+
+-- a header has at least 12 bytes, and at most 16
+pub header-bytes : (k : ℕ) → 1 ≤ k → k ≤ 8 → (12 ≤ header-length k) × (header-length k ≤ 16)
+header-bytes k h g =
+    let e : k ≡ suc (k - 1) = omega arith in
+    rw e (each-getD (λ n. (12 ≤ n) × (n ≤ 16)) (12 ∷ 16 ∷ 12 ∷ 12 ∷ 16 ∷ 12 ∷ 12 ∷ 12 ∷ []) (omega arith) (k - 1) (omega arith))
+
+-- a record has at most 48 bytes
+pub record-bytes : (k : ℕ) → k ≤ 8 → stride k ≤ 48
+record-bytes k g = each-getD (λ n. n ≤ 48) (0 ∷ 16 ∷ 48 ∷ 16 ∷ 12 ∷ 0 ∷ 12 ∷ 28 ∷ 0 ∷ []) (omega arith) k (omega arith)
+
+module _ (k at : ℕ) (s : List ℕ) where
+  pub header-past : length s < at → run (headerAt k at) s ≡ refused (offset-out (table-offset k) at (length s))
+  unfolding headerAt
+  header-past h = rw run-past
+
+  pub header-short : at ≤ length s → length s < at + header-length k → run (headerAt k at) s ≡ refused (truncated (table-header k) at (header-length k) (length s))
+  unfolding headerAt
+  header-short h g = rw (run-room, run-past)
+
+  module _ (h : at + header-length k ≤ length s) where
+    here : at ≤ length s
+    here = omega arith
+
+    pub header-other : (le 4 s at ≡ signature k → ⊥) → run (headerAt k at) s ≡ refused (wrong-signature at (signature k) (le 4 s at) 0)
+    unfolding headerAt
+    header-other g = let i = here in let e = ne-eqb _ _ g in rw (run-room, run-room, run-number, run-fails _ _ _ _ e)
+
+    pub header-found : le 4 s at ≡ signature k → run (headerAt k at) s ≡ done (record { size = le 4 s (at + 4); count = le 4 s (at + 8) })
+    unfolding headerAt run
+    header-found g = let i = here in let e = eq-eqb _ _ g in rw (run-room, run-room, run-number, run-holds _ _ _ _ e, run-number, run-number)
+
+-- so many records of a kind have no more bytes than a word counts records of 48
+pub records-bytes : (w n : ℕ) → w ≤ 48 → n < 4294967296 → w * n ≤ 206158430208
+records-bytes w n h g = let l : n ≤ 4294967296 = omega arith in mul-le-mul h l
+
+-- where a table of records ends, way by way
+module _ (k at : ℕ) (h : Header) (s : List ℕ) where
+  abbrev start : ℕ
+  start = at + header-length k
+
+  abbrev bytes : ℕ
+  bytes = stride k * h .count
+
+  pub end-cut : h .size ≡ 0 → length s < start + bytes → run (tableEnd k at h) s ≡ refused (truncated (table-array k) start bytes (length s))
+  unfolding tableEnd
+  end-cut z g = rw (z, run-past)
+
+  pub end-by-count : h .size ≡ 0 → start + bytes ≤ length s → run (tableEnd k at h) s ≡ done (start + bytes)
+  unfolding tableEnd run
+  end-by-count z g = rw (z, run-room)
+
+  -- the records of a table that ends lie in the blob
+  pub end-fits : (e : ℕ) → run (tableEnd k at h) s ≡ done e → start + bytes ≤ length s
+  end-fits e g = end-asks s k at h .found e g .1
+
+  module _ (f least : ℕ) (ef : f ≡ table-size k) (el : least ≡ header-length k) (z : h .size ≡ 0 → ⊥) where
+    pub end-unbounded : (r : Refusal) → run (bounded f at (h .size) least) s ≡ refused r → run (tableEnd k at h) s ≡ refused r
+    unfolding tableEnd
+    end-unbounded r g = rw (ne-eqb _ _ z) (run-stopped _ _ s r (rw (ef, el) at g))
+
+    module _ (e : ℕ) (g : run (bounded f at (h .size) least) s ≡ done e) where
+      pub end-past : e < start + bytes → run (tableEnd k at h) s ≡ refused (size-out (table-array k) at (h .size) 0)
+      unfolding tableEnd
+      end-past l = rw (ne-eqb _ _ z, run-after _ _ s e (rw (ef, el) at g)) (run-fails _ _ _ _ (lt-leb _ _ l))
+
+      pub end-by-size : start + bytes ≤ e → run (tableEnd k at h) s ≡ done e
+      unfolding tableEnd run
+      end-by-size l = rw (ne-eqb _ _ z, run-after _ _ s e (rw (ef, el) at g)) (run-holds _ _ _ _ (le-leb _ _ l))

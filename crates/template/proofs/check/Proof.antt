@@ -1,0 +1,49 @@
+-- What the region's end decides (Templates), and then the TEMPs until it.
+use mathlib.Core.Path.{ap, sym, _∙_}
+use native.Mathlib.Omega.{arith}
+use borrow.Author.Needs.{needs}
+use Rattle.blob.specs.Reading.{verdict}
+use Rattle.format.specs.Ends.{region-bounds}
+use Rattle.template.specs.Templates.{templates-told, templates-refused}
+use Rattle.template.proofs.check.Statement.{statement}
+use Rattle.template.proofs.check.Tie as tie
+
+region-end-requires : tie.Need-region-end-requires
+region-end-requires c κs = search needs
+
+enum-known-region : tie.Need-enum-known-region
+enum-known-region c = search needs
+
+enum-known-region-2 : tie.Need-enum-known-region-2
+enum-known-region-2 c = search needs
+
+add-check-until : tie.Need-add-check-until
+add-check-until c = search needs
+
+check-until-requires : tie.Need-check-until-requires
+check-until-requires c κs =
+    let r = c .before .before .before in
+    let b = region-bounds _ _ _ 12 _ (r .before .before .pre .0) _ (sym (c .before .region2 .given .1) ∙ r .region-end .ensures) in
+    omega arith
+
+returns : tie.Need-returns
+returns c =
+    let r = c .before .before .before in
+    sym (ap verdict (templates-refused _ _ _ _ (sym (c .before .region .given .1) ∙ r .region-end .ensures)))
+
+returns-2 : tie.Need-returns-2
+returns-2 c =
+    let r = c .before .before .before .before in
+    c .check-until .ensures ∙ sym (ap verdict (templates-told _ _ _ _ (sym (c .before .before .region2 .given .1) ∙ r .region-end .ensures)))
+
+pub check-spec : {M : Type 1} → statement M
+check-spec =
+    tie.close
+    (tie.spec
+    region-end-requires
+    enum-known-region
+    enum-known-region-2
+    add-check-until
+    check-until-requires
+    returns
+    returns-2)

@@ -1,0 +1,63 @@
+-- A table that was found fine has a region, whose TEMPs are those of the table (Templates).
+use Prim.Native.Nat.{ℕ}
+use mathlib.Core.Path.{_≡_, ap, sym, _∙_}
+use native.Mathlib.Omega.{arith}
+use borrow.Author.Needs.{needs}
+use Rattle.blob.specs.declared.Verdict.the-variants as verdicts
+use Rattle.blob.specs.Reading.{verdict}
+use Rattle.format.specs.Ends.{region-bounds}
+use Rattle.template.specs.Templates.{templates-told, templates-refused}
+use Rattle.template.proofs.fill.Statement.{statement}
+use Rattle.template.proofs.fill.Tie as tie
+
+region-end-requires : tie.Need-region-end-requires
+region-end-requires c κs = search needs
+
+enum-known-end : tie.Need-enum-known-end
+enum-known-end c = search needs
+
+enum-told : tie.Need-enum-told
+enum-told c = search needs
+
+returns : tie.Need-returns
+returns c =
+    let r = c .before .before in
+    let z : verdicts.Refused _ ≡ verdicts.Fine =
+    sym (ap verdict (templates-refused _ _ _ _ (sym (c .enum-told .given .1) ∙ r .region-end .ensures))) ∙ r .before .before .before .pre .1 .1 in
+    absurd (let z0 : _≡_ {A = ℕ} 0 1 = cc in omega arith)
+
+add-fill-until : tie.Need-add-fill-until
+add-fill-until c = search needs
+
+fill-until-requires : tie.Need-fill-until-requires
+fill-until-requires c κs =
+    let e = c .before .before in
+    let r = e .before .before in
+    let pre = r .before .before .before .pre in
+    let told = sym (e .end .given .1) ∙ r .region-end .ensures in
+    let b = region-bounds _ _ _ 12 _ (pre .0 .0) _ told in
+    (omega arith, (pre .1 .0, sym (ap verdict (templates-told _ _ _ _ told)) ∙ pre .1 .1))
+
+same-length : tie.Need-same-length
+same-length c = search needs
+
+returns-2 : tie.Need-returns-2
+returns-2 c =
+    let f = c .before .before in
+    let e = f .before .before .before in
+    let r = e .before .before in
+    let told = sym (e .end .given .1) ∙ r .region-end .ensures in
+    f .fill-until .ensures ∙ rw (templates-told _ (r .before .before .before .args .h) _ _ told)
+
+pub fill-spec : {M : Type 1} → statement M
+fill-spec =
+    tie.close
+    (tie.spec
+    region-end-requires
+    enum-known-end
+    enum-told
+    returns
+    add-fill-until
+    fill-until-requires
+    same-length
+    returns-2)

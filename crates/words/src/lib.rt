@@ -1,0 +1,34 @@
+// Words that several structures share: a GUID's, read; and four words of an entry, stored. Entries of several lists are three or four
+// times four of them.
+ghost use mathlib.Core.Path.{_≡_};
+ghost use mathlib.Core.List.{[], _∷_};
+ghost use Prim.Native.Nat.{_+_, _≤_};
+ghost use lib.ListN.{length};
+ghost use Rattle.blob.specs.Reading.{run, done};
+ghost use Rattle.blob.specs.Laid.{laid};
+ghost use Rattle.format.specs.Definition.{guidAt};
+use format::Guid;
+
+// A GUID's words.
+pub fn guid_at(b: &[u8], at: usize) -> Guid
+    requires { ⌜ at + 16 ≤ length (now b) ⌝ }
+    ensures { λ r. ⌜ run (guidAt at) (now (b .entry)) ≡ done r ⌝ }
+{
+    Guid {
+        a: blob::word(b, at),
+        b: blob::word(b, at + 4),
+        c: blob::word(b, at + 8),
+        d: blob::word(b, at + 12),
+    }
+}
+
+// Stores four words from a place of the area on.
+pub fn put_four(area: &mut [u32], to: usize, w: u32, x: u32, y: u32, z: u32)
+    requires { ⌜ to + 4 ≤ length (now area) ⌝ }
+    ensures { λ _. ⌜ now (area .exit) ≡ laid (now (area .entry)) to (w ∷ x ∷ y ∷ z ∷ []) ⌝ }
+{
+    area[to] = w;
+    area[to + 1] = x;
+    area[to + 2] = y;
+    area[to + 3] = z;
+}
