@@ -11,6 +11,20 @@ use Rattle.format.specs.declared.NameRead.{NameRead}
 use Rattle.format.specs.declared.NameRead.the-variants as names
 use Rattle.format.specs.declared.EndRead.{EndRead}
 use Rattle.format.specs.declared.EndRead.the-variants as ends
+use Rattle.format.specs.declared.HeaderRead.{HeaderRead}
+use Rattle.format.specs.declared.HeaderRead.the-variants as headers
+use Rattle.format.specs.declared.DefinitionRead.{DefinitionRead}
+use Rattle.format.specs.declared.DefinitionRead.the-variants as definitions
+use Rattle.format.specs.declared.TemplateRead.{TemplateRead}
+use Rattle.format.specs.declared.TemplateRead.the-variants as temps
+use Rattle.format.specs.declared.MapRead.{MapRead}
+use Rattle.format.specs.declared.MapRead.the-variants as maps
+use Rattle.format.specs.declared.MapsRead.{MapsRead}
+use Rattle.format.specs.declared.MapsRead.the-variants as entries
+use Rattle.format.specs.declared.WevtRead.{WevtRead}
+use Rattle.format.specs.declared.WevtRead.the-variants as wevts
+use Rattle.format.specs.declared.DescriptorRead.{DescriptorRead}
+use Rattle.format.specs.declared.DescriptorRead.the-variants as descriptors
 use Rattle.format.specs.declared.TemplateFound.{TemplateFound}
 use Rattle.format.specs.declared.TemplateFound.the-variants as templates
 use Rattle.format.specs.declared.GuidsFound.{GuidsFound}
@@ -40,3 +54,31 @@ templateSays (templates.Refused r) = r
 abbrev pub guidsSays : GuidsFound → Refusal
 guidsSays (guids.Given n) = fine
 guidsSays (guids.Refused r) = r
+
+abbrev pub headerSays : HeaderRead → Refusal
+headerSays (headers.Header h) = fine
+headerSays (headers.Refused r) = r
+
+abbrev pub definitionSays : DefinitionRead → Refusal
+definitionSays (definitions.Definition d) = fine
+definitionSays (definitions.Refused r) = r
+
+abbrev pub tempSays : TemplateRead → Refusal
+tempSays (temps.Template t) = fine
+tempSays (temps.Refused r) = r
+
+abbrev pub mapSays : MapRead → Refusal
+mapSays (maps.Map m) = fine
+mapSays (maps.Refused r) = r
+
+abbrev pub mapsSays : MapsRead → Refusal
+mapsSays (entries.Entries n) = fine
+mapsSays (entries.Refused r) = r
+
+abbrev pub wevtSays : WevtRead → Refusal
+wevtSays (wevts.Wevt w) = fine
+wevtSays (wevts.Refused r) = r
+
+abbrev pub descriptorSays : DescriptorRead → Refusal
+descriptorSays (descriptors.Descriptor d) = fine
+descriptorSays (descriptors.Refused r) = r
