@@ -1,3 +1,1 @@
-pub mod Events
 pub mod Headers
-pub mod Records

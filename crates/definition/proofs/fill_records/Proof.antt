@@ -1,0 +1,116 @@
+-- The invariant: what is left decides. The rest, laid from here, makes the area what it shall be, and the rest is fine.
+use Prim.Native.Nat.{ℕ, _+_, _*_, _≤_}
+use mathlib.Core.Path.{_≡_, refl, sym, _∙_}
+use native.Mathlib.Omega.{arith}
+use borrow.Author.Needs.{needs}
+use lib.ListN.{length}
+use Rattle.blob.specs.declared.Verdict.the-variants as verdicts
+use Rattle.blob.specs.Reading.{run, verdict}
+use Rattle.blob.specs.Laws.{many-more, many-stop, rest, rest-more, rest-none}
+use Rattle.format.specs.Table.{stride}
+use Rattle.format.specs.Definition.{definitionAt, step}
+use Rattle.format.specs.Lists.{definitionWords}
+use Rattle.definition.specs.Records.{rows, one-less, is-definition, is-refused}
+use Rattle.definition.proofs.fill_records.Statement.{statement}
+use Rattle.definition.proofs.fill_records.Tie as tie
+
+abbrev Inv-loop : tie.InvT-loop
+Inv-loop b kind start n area₀ bytes at₀ left₀ to₀ area at left to =
+    (at + bytes * left ≤ length b)
+    × (to + 12 * left ≤ length area)
+    × (length area ≡ length area₀)
+    × (verdict (run (rows kind bytes left at) b) ≡ verdicts.Fine)
+    × (rest (definitionAt kind) (step (stride kind)) definitionWords b area₀ n start 0 ≡ rest (definitionAt kind) (step bytes) definitionWords b area left at to)
+
+abbrev μ-loop : tie.MeasureT-loop
+μ-loop b kind start n area₀ bytes at₀ left₀ to₀ area at left to = left
+
+stride-requires : tie.Need-stride-requires Inv-loop μ-loop
+stride-requires c κs = search needs
+
+cast-bytes : tie.Need-cast-bytes Inv-loop μ-loop
+cast-bytes c = search needs
+
+loop-holds : tie.Need-loop-holds Inv-loop μ-loop
+loop-holds c = let e = c .stride .ensures .0 in (rw e (search needs), search needs, refl, rw e (search needs), rw e)
+
+definition-at-requires : tie.Need-definition-at-requires Inv-loop μ-loop
+definition-at-requires c κs = let l = one-less (c .before .before .stride .result) (c .before .loop .left) (c .loop-test .taken) in search needs
+
+enum-known-d : tie.Need-enum-known-d Inv-loop μ-loop
+enum-known-d c = search needs
+
+enum-told : tie.Need-enum-told Inv-loop μ-loop
+enum-told c = search needs
+
+same-length : tie.Need-same-length Inv-loop μ-loop
+same-length c = search needs
+
+returns : tie.Need-returns Inv-loop μ-loop
+returns c =
+    let m = c .before .before in
+    let z : verdicts.Refused _ ≡ verdicts.Fine =
+    sym (many-stop (definitionAt _) (step _) _ _ _ _ (m .before .loop-test .taken) (is-refused _ _ (sym (c .enum-told .given .1) ∙ m .definition-at .ensures)))
+    ∙ m .before .before .loop .inv .3 in
+    absurd (let z0 : _≡_ {A = ℕ} 0 1 = cc in omega arith)
+
+put-definition-requires : tie.Need-put-definition-requires Inv-loop μ-loop
+put-definition-requires c κs = search needs
+
+add-at : tie.Need-add-at Inv-loop μ-loop
+add-at c =
+    let i = c .before .before .before .before .before .before .before .before in
+    omega (arith, one-less (i .before .before .stride .result) (i .before .loop .left) (i .loop-test .taken))
+
+sub-left : tie.Need-sub-left Inv-loop μ-loop
+sub-left c = search needs
+
+add-to : tie.Need-add-to Inv-loop μ-loop
+add-to c = search needs
+
+loop-less : tie.Need-loop-less Inv-loop μ-loop
+loop-less c = search needs
+
+loop-again : tie.Need-loop-again Inv-loop μ-loop
+loop-again c =
+    let p = c .before .before in
+    let d = p .before .before .before in
+    let m = d .before .before in
+    let l = m .before .before in
+    let inv = l .loop .inv in
+    let found = is-definition _ _ (sym (d .d .given .1) ∙ m .definition-at .ensures) in (
+      omega (arith, one-less (l .before .stride .result) (l .loop .left) (m .before .loop-test .taken)),
+      omega (arith, p .put-definition .kept .0),
+      p .put-definition .kept .0 ∙ inv .2,
+      sym (many-more (definitionAt _) (step _) _ _ _ _ (m .before .loop-test .taken) found) ∙ inv .3,
+      inv .4 ∙ rest-more (definitionAt _) (step _) definitionWords _ _ _ _ _ _ _ (p .put-definition .ensures) (m .before .loop-test .taken) found (inv .3),
+    )
+
+same-length-2 : tie.Need-same-length-2 Inv-loop μ-loop
+same-length-2 c = search needs
+
+returns-2 : tie.Need-returns-2 Inv-loop μ-loop
+returns-2 c = sym (c .before .loop .inv .4 ∙ rest-none (definitionAt _) (step _) definitionWords _ _ _ _ _ (c .loop-test .left))
+
+pub fill-records-spec : {M : Type 1} → statement M
+fill-records-spec =
+    tie.close
+    (tie.spec
+    Inv-loop
+    μ-loop
+    stride-requires
+    cast-bytes
+    loop-holds
+    definition-at-requires
+    enum-known-d
+    enum-told
+    same-length
+    returns
+    put-definition-requires
+    add-at
+    sub-left
+    add-to
+    loop-less
+    loop-again
+    same-length-2
+    returns-2)

@@ -1,0 +1,235 @@
+// The tables of definitions: a record by its kind, then its name; their check and their words.
+ghost use mathlib.Core.Path.{_≡_};
+ghost use Prim.Native.Nat.{_+_, _*_, _≤_};
+ghost use lib.ListN.{length};
+ghost use Rattle.blob.specs.Reading.{run, done, verdict, values};
+ghost use Rattle.blob.specs.Laid.{laid, flat};
+ghost use Rattle.format.specs.Table.{header-length, stride};
+ghost use Rattle.format.specs.Name as spec-name;
+ghost use Rattle.format.specs.Definition.{guidAt, channelFields, keywordFields, taskFields, plainFields, fieldsAt, name-field, named, definitionAt, definitionRead, definitionsAt};
+ghost use Rattle.format.specs.Lists.{definitionWords};
+ghost use Rattle.definition.specs.Records.{rows};
+use blob::Verdict;
+use format::Definition;
+use format::DefinitionRead;
+use format::EndRead;
+use format::Guid;
+use format::Header;
+use format::Name;
+use format::NameRead;
+use name::absent;
+use table::header_length;
+use table::stride;
+use table::table_end;
+use words::guid_at;
+use words::put_four;
+
+// The field codes of names, by kind; 0 where it has none.
+const NAME_FIELDS: [u8; 9] = [0, 75, 0, 76, 77, 0, 78, 79, 0];
+
+// The field of a kind's names.
+fn name_field(kind: u32) -> u8
+    requires { ⌜ kind ≤ 8 ⌝ }
+    ensures { λ r. ⌜ r ≡ name-field kind ⌝ }
+{
+    NAME_FIELDS[kind as usize]
+}
+
+// No GUID, of a kind that has none.
+fn none() -> Guid
+    ensures { λ r. ⌜ r ≡ record { a = 0; b = 0; c = 0; d = 0 } ⌝ }
+{
+    Guid {
+        a: 0,
+        b: 0,
+        c: 0,
+        d: 0,
+    }
+}
+
+// CHAN: identifier, name offset, unknown, message. Here and below the name is still to be read.
+fn channel(b: &[u8], at: usize) -> Definition
+    requires { ⌜ at + 16 ≤ length (now b) ⌝ }
+    ensures { λ r. ⌜ run (channelFields at) (now (b .entry)) ≡ done r ⌝ }
+{
+    Definition {
+        kind: 1,
+        low: blob::word(b, at),
+        high: 0,
+        message: blob::word(b, at + 12),
+        offset: blob::word(b, at + 4),
+        name: absent(),
+        unknown: blob::word(b, at + 8),
+        mui: none(),
+    }
+}
+
+// KEYW: identifier, message, name offset.
+fn keyword(b: &[u8], at: usize) -> Definition
+    requires { ⌜ at + 16 ≤ length (now b) ⌝ }
+    ensures { λ r. ⌜ run (keywordFields at) (now (b .entry)) ≡ done r ⌝ }
+{
+    Definition {
+        kind: 3,
+        low: blob::word(b, at),
+        high: blob::word(b, at + 4),
+        message: blob::word(b, at + 8),
+        offset: blob::word(b, at + 12),
+        name: absent(),
+        unknown: 0,
+        mui: none(),
+    }
+}
+
+// TASK: identifier, message, GUID, name offset.
+fn task(b: &[u8], at: usize) -> Definition
+    requires { ⌜ at + 28 ≤ length (now b) ⌝ }
+    ensures { λ r. ⌜ run (taskFields at) (now (b .entry)) ≡ done r ⌝ }
+{
+    Definition {
+        kind: 7,
+        low: blob::word(b, at),
+        high: 0,
+        message: blob::word(b, at + 4),
+        offset: blob::word(b, at + 24),
+        name: absent(),
+        unknown: 0,
+        mui: guid_at(b, at + 8),
+    }
+}
+
+// LEVL and OPCO: identifier, message, name offset.
+fn plain(b: &[u8], kind: u32, at: usize) -> Definition
+    requires { ⌜ at + 12 ≤ length (now b) ⌝ }
+    ensures { λ r. ⌜ run (plainFields kind at) (now (b .entry)) ≡ done r ⌝ }
+{
+    Definition {
+        kind,
+        low: blob::word(b, at),
+        high: 0,
+        message: blob::word(b, at + 4),
+        offset: blob::word(b, at + 8),
+        name: absent(),
+        unknown: 0,
+        mui: none(),
+    }
+}
+
+// A record's own fields, by its kind.
+fn fields_at(b: &[u8], kind: u32, at: usize) -> Definition
+    requires { ⌜ (kind ≤ 8) × (12 ≤ stride kind) × (at + stride kind ≤ length (now b)) ⌝ }
+    ensures { λ r. ⌜ run (fieldsAt kind at) (now (b .entry)) ≡ done r ⌝ }
+{
+    match kind {
+        1 => channel(b, at),
+        3 => keyword(b, at),
+        7 => task(b, at),
+        _ => plain(b, kind, at),
+    }
+}
+
+// A definition with its name.
+fn with_name(d: Definition, n: Name) -> Definition
+    ensures { λ r. ⌜ r ≡ named d n ⌝ }
+{
+    let mut out = d;
+    out.name = n;
+    out
+}
+
+// The definition whose record stands at a place.
+pub fn definition_at(b: &[u8], kind: u32, at: usize) -> DefinitionRead
+    requires { ⌜ (kind ≤ 8) × (12 ≤ stride kind) × (at + stride kind ≤ length (now b)) ⌝ }
+    requires { ⌜ length (now b) ≤ 16777216 ⌝ }
+    ensures { λ r. ⌜ r ≡ definitionRead (run (definitionAt kind at) (now (b .entry))) ⌝ }
+{
+    let d = fields_at(b, kind, at);
+    match name::name_at(b, name_field(kind), d.offset) {
+        NameRead::Name(n) => DefinitionRead::Definition(with_name(d, n)),
+        NameRead::Refused(r) => DefinitionRead::Refused(r),
+    }
+}
+
+// Whether n records of a kind stand one after another from a place on, each with its name.
+fn check_records(b: &[u8], kind: u32, start: usize, n: u32) -> Verdict
+    requires { ⌜ (kind ≤ 8) × (12 ≤ stride kind) × (start + stride kind * n ≤ length (now b)) ⌝ }
+    requires { ⌜ length (now b) ≤ 16777216 ⌝ }
+    ensures { λ r. ⌜ r ≡ verdict (run (rows kind (stride kind) n start) (now (b .entry))) ⌝ }
+{
+    let bytes = stride(kind) as usize;
+    let mut at = start;
+    let mut left = n;
+    while 0 < left {
+        let found = definition_at(b, kind, at);
+        if let DefinitionRead::Refused(r) = found {
+            return Verdict::Refused(r);
+        }
+        at += bytes;
+        left -= 1;
+    }
+    Verdict::Fine
+}
+
+// Whether the table of definitions at a place is right, whose header has been read.
+pub fn check_definitions(b: &[u8], kind: u32, at: usize, h: Header) -> Verdict
+    requires { ⌜ (1 ≤ kind) × (kind ≤ 8) × (12 ≤ stride kind) × (at + header-length kind ≤ length (now b)) ⌝ }
+    requires { ⌜ length (now b) ≤ 16777216 ⌝ }
+    ensures { λ r. ⌜ r ≡ verdict (run (definitionsAt kind at h) (now (b .entry))) ⌝ }
+{
+    let bound = table_end(b, kind, at, h);
+    if let EndRead::Refused(r) = bound {
+        return Verdict::Refused(r);
+    }
+    check_records(b, kind, at + header_length(kind) as usize, h.count)
+}
+
+// Stores a definition's words from a place of the area on.
+fn put_definition(area: &mut [u32], to: usize, d: Definition)
+    requires { ⌜ to + 12 ≤ length (now area) ⌝ }
+    ensures { λ _. ⌜ now (area .exit) ≡ laid (now (area .entry)) to (definitionWords d) ⌝ }
+{
+    put_four(area, to, d.kind, d.low, d.high, d.message);
+    put_four(
+        area,
+        to + 4,
+        d.offset,
+        d.name.start,
+        d.name.units,
+        d.unknown,
+    );
+    put_four(area, to + 8, d.mui.a, d.mui.b, d.mui.c, d.mui.d);
+}
+
+// Stores the words of n records that `check_records` found fine.
+fn fill_records(b: &[u8], kind: u32, start: usize, n: u32, area: &mut [u32])
+    requires { ⌜ (kind ≤ 8) × (12 ≤ stride kind) × (start + stride kind * n ≤ length (now b)) ⌝ }
+    requires { ⌜ length (now b) ≤ 16777216 ⌝ }
+    requires { ⌜ verdict (run (rows kind (stride kind) n start) (now b)) ≡ Verdict.Fine ⌝ }
+    requires { ⌜ 12 * n ≤ length (now area) ⌝ }
+    ensures { λ _. ⌜ now (area .exit) ≡ laid (now (area .entry)) 0 (flat definitionWords (values (run (rows kind (stride kind) n start) (now (b .entry))))) ⌝ }
+{
+    let bytes = stride(kind) as usize;
+    let mut at = start;
+    let mut left = n;
+    let mut to = 0;
+    while 0 < left {
+        let DefinitionRead::Definition(d) = definition_at(b, kind, at) else {
+            return;
+        };
+        put_definition(area, to, d);
+        at += bytes;
+        left -= 1;
+        to += 12;
+    }
+}
+
+// Stores the words of a table of definitions that `check_definitions` found fine.
+pub fn fill_definitions(b: &[u8], kind: u32, at: usize, h: Header, area: &mut [u32])
+    requires { ⌜ (1 ≤ kind) × (kind ≤ 8) × (12 ≤ stride kind) × (at + header-length kind ≤ length (now b)) ⌝ }
+    requires { ⌜ length (now b) ≤ 16777216 ⌝ }
+    requires { ⌜ verdict (run (definitionsAt kind at h) (now b)) ≡ Verdict.Fine ⌝ }
+    requires { ⌜ 12 * h .count ≤ length (now area) ⌝ }
+    ensures { λ _. ⌜ now (area .exit) ≡ laid (now (area .entry)) 0 (flat definitionWords (values (run (definitionsAt kind at h) (now (b .entry))))) ⌝ }
+{
+    fill_records(b, kind, at + header_length(kind) as usize, h.count, area);
+}

@@ -1,0 +1,78 @@
+-- The invariant: what is left decides. The rest, laid from here, makes the area what it shall be; no event is refused.
+use Prim.Native.Nat.{_+_, _*_, _≤_}
+use mathlib.Core.Path.{_≡_, refl, sym, _∙_}
+use native.Mathlib.Omega.{arith}
+use borrow.Author.Needs.{needs}
+use lib.ListN.{length}
+use Rattle.blob.specs.Laws.{rest, rest-more, rest-none}
+use Rattle.format.specs.Definition.{step}
+use Rattle.format.specs.Event.{eventAt}
+use Rattle.format.specs.Lists.{eventWords}
+use Rattle.event.specs.Events.{events-fine}
+use Rattle.event.proofs.fill_events.Statement.{statement}
+use Rattle.event.proofs.fill_events.Tie as tie
+
+abbrev Inv-loop : tie.InvT-loop
+Inv-loop b at n area₀ next₀ left₀ to₀ area next left to =
+    (next + 48 * left ≤ length b)
+    × (to + 16 * left ≤ length area)
+    × (length area ≡ length area₀)
+    × (rest eventAt (step 48) eventWords b area₀ n at 0 ≡ rest eventAt (step 48) eventWords b area left next to)
+
+abbrev μ-loop : tie.MeasureT-loop
+μ-loop b at n area₀ next₀ left₀ to₀ area next left to = left
+
+loop-holds : tie.Need-loop-holds Inv-loop μ-loop
+loop-holds c = (search needs, search needs, refl, refl)
+
+event-at-requires : tie.Need-event-at-requires Inv-loop μ-loop
+event-at-requires c κs = search needs
+
+put-event-requires : tie.Need-put-event-requires Inv-loop μ-loop
+put-event-requires c κs = search needs
+
+add-next : tie.Need-add-next Inv-loop μ-loop
+add-next c = search needs
+
+sub-left : tie.Need-sub-left Inv-loop μ-loop
+sub-left c = search needs
+
+add-to : tie.Need-add-to Inv-loop μ-loop
+add-to c = search needs
+
+loop-less : tie.Need-loop-less Inv-loop μ-loop
+loop-less c = search needs
+
+loop-again : tie.Need-loop-again Inv-loop μ-loop
+loop-again c =
+    let p = c .before .before in
+    let l = p .before .before .before in
+    let inv = l .before .loop .inv in (
+      omega arith,
+      omega (arith, p .put-event .kept .0),
+      p .put-event .kept .0 ∙ inv .2,
+      inv .3 ∙ rest-more eventAt (step 48) eventWords _ _ _ _ _ _ _ (p .put-event .ensures) (l .loop-test .taken) (p .before .event-at .ensures) (events-fine _ _ _),
+    )
+
+same-length : tie.Need-same-length Inv-loop μ-loop
+same-length c = search needs
+
+returns : tie.Need-returns Inv-loop μ-loop
+returns c = sym (c .before .loop .inv .3 ∙ rest-none eventAt (step 48) eventWords _ _ _ _ _ (c .loop-test .left))
+
+pub fill-events-spec : {M : Type 1} → statement M
+fill-events-spec =
+    tie.close
+    (tie.spec
+    Inv-loop
+    μ-loop
+    loop-holds
+    event-at-requires
+    put-event-requires
+    add-next
+    sub-left
+    add-to
+    loop-less
+    loop-again
+    same-length
+    returns)
