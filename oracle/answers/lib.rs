@@ -116,7 +116,10 @@ fn from_error(error: WevtManifestError) -> Answer {
 }
 
 fn acceptance(manifest: &CrimManifest) -> Answer {
-    let mut lists = Lists::default();
+    let mut lists = Lists {
+        blob: manifest.data,
+        words: Default::default(),
+    };
     for (provider, number) in manifest.providers.iter().zip(0..) {
         lists.provider(number, provider);
     }
@@ -127,7 +130,7 @@ fn acceptance(manifest: &CrimManifest) -> Answer {
         place: 0,
         first: header.size.into(),
         second: u64::from(header.major_version) + 65_536 * u64::from(header.minor_version),
-        lists: lists.0,
+        lists: lists.words,
     }
 }
 
@@ -177,18 +180,50 @@ struct Definition<'a> {
     mui: [u32; 4],
 }
 
-#[derive(Default)]
-struct Lists([Vec<u32>; 10]);
+struct Lists<'a> {
+    blob: &'a [u8],
+    words: [Vec<u32>; 10],
+}
 
-impl Lists {
+impl Lists<'_> {
+    /// Start and length of a part of the blob that the original kept. The start
+    /// is the format's; that the part really starts there is tested.
+    fn kept(&self, start: u32, part: &[u8]) -> [u32; 2] {
+        if let Some(first) = part.first() {
+            let there = &self.blob[start as usize];
+            assert!(
+                std::ptr::eq(first, there),
+                "a part doesn't start at {start}"
+            );
+        }
+        [start, word(part.len())]
+    }
+
+    /// The same of bytes that the original copied.
+    fn copied(&self, start: u32, part: &[u8]) -> [u32; 2] {
+        let there = &self.blob[start as usize..];
+        assert!(there.starts_with(part), "a part doesn't stand at {start}");
+        [start, word(part.len())]
+    }
+
+    /// Start and units of a name, 0 and 0 for an absent one.
+    fn name(&self, offset: u32, name: &Option<String>) -> [u32; 2] {
+        let Some(text) = name else {
+            return [0, 0];
+        };
+        let units: Vec<u8> = text.encode_utf16().flat_map(u16::to_le_bytes).collect();
+        let [start, bytes] = self.copied(offset + 4, &units);
+        [start, bytes / 2]
+    }
+
     fn put<const N: usize>(&mut self, list: usize, entry: [u32; N]) {
         assert_eq!(N, WORDS[list - 1]);
-        self.0[list - 1].extend(entry);
+        self.words[list - 1].extend(entry);
     }
 
     /// How many entries were put in a list so far.
     fn written(&self, list: usize) -> u32 {
-        word(self.0[list - 1].len() / WORDS[list - 1])
+        word(self.words[list - 1].len() / WORDS[list - 1])
     }
 
     /// All of one provider; its tables in the order of their kinds.
@@ -282,7 +317,7 @@ impl Lists {
     }
 
     fn definition(&mut self, d: Definition) {
-        let [name_start, name_units] = name(d.name_offset, d.name);
+        let [name_start, name_units] = self.name(d.name_offset, d.name);
         let [mui_1, mui_2, mui_3, mui_4] = d.mui;
         self.put(
             DEFINITIONS,
@@ -385,7 +420,7 @@ impl Lists {
             size: t.size,
             extra: t.unknown,
             count: t.events.len(),
-            trailing: [records_end, word(t.trailing.len())],
+            trailing: self.copied(records_end, &t.trailing),
         };
         self.table(provider, Kind::Evnt, EVENTS, table);
         for e in &t.events {
@@ -429,8 +464,9 @@ impl Lists {
     fn map(&mut self, map: &MapDefinition) {
         match map {
             MapDefinition::ValueMap(v) => {
-                let [name_start, name_units] = name(v.map_string_offset, &v.map_string);
+                let [name_start, name_units] = self.name(v.map_string_offset, &v.map_string);
                 let entries_end = v.offset + 16 + 8 * word(v.entries.len());
+                let [data_start, data_length] = self.kept(entries_end, v.trailing);
                 self.put(
                     MAPS,
                     [
@@ -443,8 +479,8 @@ impl Lists {
                         name_units,
                         self.written(MAP_ENTRIES),
                         word(v.entries.len()),
-                        entries_end,
-                        word(v.trailing.len()),
+                        data_start,
+                        data_length,
                     ],
                 );
                 for entry in &v.entries {
@@ -466,10 +502,10 @@ impl Lists {
     /// A map that isn't read further: its data starts at its own place.
     fn plain_map(&mut self, sort: u32, signature: [u8; 4], offset: u32, data: &[u8]) {
         let signature = u32::from_le_bytes(signature);
-        let length = word(data.len());
+        let [start, length] = self.kept(offset, data);
         self.put(
             MAPS,
-            [sort, signature, offset, 0, 0, 0, 0, 0, 0, offset, length],
+            [sort, signature, offset, 0, 0, 0, 0, 0, 0, start, length],
         );
     }
 
@@ -483,6 +519,7 @@ impl Lists {
         self.table(provider, Kind::Ttbl, TEMPLATES, table);
         for template in &t.templates {
             let [a, b, c, d] = guid(template.guid);
+            let [start, length] = self.kept(template.offset + 40, template.binxml);
             self.put(
                 TEMPLATES,
                 [
@@ -496,8 +533,8 @@ impl Lists {
                     b,
                     c,
                     d,
-                    template.offset + 40,
-                    word(template.binxml.len()),
+                    start,
+                    length,
                 ],
             );
         }
@@ -513,14 +550,6 @@ fn word(n: usize) -> u32 {
 /// The raw word of a message identifier, which the original takes apart.
 fn message(identifier: Option<u32>) -> u32 {
     identifier.unwrap_or(u32::MAX)
-}
-
-/// Start and units of a name, 0 and 0 for an absent one.
-fn name(offset: u32, name: &Option<String>) -> [u32; 2] {
-    match name {
-        Some(text) => [offset + 4, word(text.encode_utf16().count())],
-        None => [0, 0],
-    }
 }
 
 fn guid(guid: Guid) -> [u32; 4] {
