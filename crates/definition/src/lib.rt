@@ -17,6 +17,11 @@ use format::Guid;
 use format::Header;
 use format::Name;
 use format::NameRead;
+use format::field::CHAN_NAME;
+use format::field::KEYW_DATA;
+use format::field::LEVL_DATA;
+use format::field::OPCO_DATA;
+use format::field::TASK_DATA;
 use name::absent;
 use table::header_length;
 use table::stride;
@@ -25,7 +30,17 @@ use words::guid_at;
 use words::put_four;
 
 // The field codes of names, by kind; 0 where it has none.
-const NAME_FIELDS: [u8; 9] = [0, 75, 0, 76, 77, 0, 78, 79, 0];
+const NAME_FIELDS: [u8; 9] = [
+    0,
+    CHAN_NAME,
+    0,
+    KEYW_DATA,
+    LEVL_DATA,
+    0,
+    OPCO_DATA,
+    TASK_DATA,
+    0,
+];
 
 // The field of a kind's names.
 fn name_field(kind: u32) -> u8

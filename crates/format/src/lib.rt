@@ -1,6 +1,8 @@
 // The types that the definition of the format speaks of, and that the code reads into. What is right stands in specs/.
 use blob::Refusal;
 
+pub mod field;
+
 // A GUID: its 16 bytes as little-endian words.
 pub struct Guid {
     pub a: u32,

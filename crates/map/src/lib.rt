@@ -23,26 +23,16 @@ use format::MapRead;
 use format::MapsRead;
 use format::Name;
 use format::NameRead;
+use format::field::MAPS_MAP_OFFSET;
+use format::field::MAPS_MAP_SIGNATURE;
+use format::field::MAPS_OFFSETS_ARRAY;
+use format::field::MAPS_SIZE;
+use format::field::VMAP_ENTRIES_ARRAY;
+use format::field::VMAP_HEADER;
+use format::field::VMAP_MAP_STRING;
+use format::field::VMAP_SIZE;
+use format::field::VMAP_SIZE_FIELD;
 use name::absent;
-
-// Field codes, as in format's Field.
-const MAPS_SIZE: u8 = 54;
-
-const MAPS_OFFSETS_ARRAY: u8 = 90;
-
-const MAPS_MAP_OFFSET: u8 = 92;
-
-const MAPS_MAP_SIGNATURE: u8 = 93;
-
-const VMAP_SIZE_FIELD: u8 = 94;
-
-const VMAP_HEADER: u8 = 95;
-
-const VMAP_SIZE: u8 = 96;
-
-const VMAP_ENTRIES_ARRAY: u8 = 99;
-
-const VMAP_MAP_STRING: u8 = 102;
 
 // Signatures, as little-endian numbers.
 const VMAP: u32 = 0x50414D56;

@@ -12,20 +12,27 @@ use format::Descriptor;
 use format::DescriptorRead;
 use format::Wevt;
 use format::WevtRead;
+use format::field::WEVT_ELEMENT_OFFSET;
+use format::field::WEVT_ELEMENT_SIGNATURE;
+use format::field::WEVT_HEADER;
+use format::field::WEVT_PROVIDER_OFFSET;
+
+// `WEVT` as a little-endian number.
+const WEVT: u32 = 0x54564557;
 
 // The header of the WEVT at a place.
 pub fn wevt_at(b: &[u8], at: usize) -> WevtRead
     ensures { λ r. ⌜ r ≡ spec.wevtRead (run (spec.wevtAt at) (now (b .entry))) ⌝ }
 {
     if b.len() < at {
-        return WevtRead::Refused(bounds::offset_out(b, 9, at));
+        return WevtRead::Refused(bounds::offset_out(b, WEVT_PROVIDER_OFFSET, at));
     }
     if b.len() - at < 20 {
-        return WevtRead::Refused(bounds::truncated(b, 10, at, 20));
+        return WevtRead::Refused(bounds::truncated(b, WEVT_HEADER, at, 20));
     }
     let found = blob::word(b, at);
-    if found != 0x54564557 {
-        return WevtRead::Refused(bounds::wrong_signature(at, 0x54564557, found));
+    if found != WEVT {
+        return WevtRead::Refused(bounds::wrong_signature(at, WEVT, found));
     }
     WevtRead::Wevt(Wevt {
         size: blob::word(b, at + 4),
@@ -44,10 +51,10 @@ pub fn descriptor_at(b: &[u8], at: usize) -> DescriptorRead
     let unknown = blob::word(b, at + 4);
     let place = offset as usize;
     if b.len() < place {
-        return DescriptorRead::Refused(bounds::offset_out(b, 19, place));
+        return DescriptorRead::Refused(bounds::offset_out(b, WEVT_ELEMENT_OFFSET, place));
     }
     if b.len() - place < 4 {
-        return DescriptorRead::Refused(bounds::truncated(b, 20, place, 4));
+        return DescriptorRead::Refused(bounds::truncated(b, WEVT_ELEMENT_SIGNATURE, place, 4));
     }
     DescriptorRead::Descriptor(Descriptor {
         offset,

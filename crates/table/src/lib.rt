@@ -8,6 +8,10 @@ ghost use Rattle.format.specs.Region.{endRead};
 use format::EndRead;
 use format::Header;
 use format::HeaderRead;
+use format::field::TABLE_ARRAY;
+use format::field::TABLE_HEADER;
+use format::field::TABLE_OFFSET;
+use format::field::TABLE_SIZE;
 
 // What each kind has, by its number; 0 where it has none.
 const SIGNATURES: [u32; 9] = [
@@ -25,15 +29,6 @@ const SIGNATURES: [u32; 9] = [
 const HEADER_LENGTHS: [u32; 9] = [0, 12, 16, 12, 12, 16, 12, 12, 12];
 
 const STRIDES: [u32; 9] = [0, 16, 48, 16, 12, 0, 12, 28, 0];
-
-// What a kind's tables are refused for: a field code of a kind is one of these and six times the kind.
-const TABLE_OFFSET: u8 = 21;
-
-const TABLE_HEADER: u8 = 22;
-
-const TABLE_SIZE: u8 = 24;
-
-const TABLE_ARRAY: u8 = 26;
 
 // The signature of a kind.
 fn signature(kind: u32) -> u32

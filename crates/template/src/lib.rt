@@ -20,24 +20,17 @@ use format::Items;
 use format::Template;
 use format::TemplatePlace;
 use format::TemplateRead;
+use format::field::TEMP_HEADER;
+use format::field::TEMP_ITEM_NAME_COUNT_EXPECTED_0;
+use format::field::TEMP_SIZE;
+use format::field::TEMP_TEMPLATE_ITEMS_OFFSET;
+use format::field::TEMP_TEMPLATE_ITEMS_OFFSET_RELATIVE;
+use format::field::TTBL_SIZE;
 use words::guid_at;
 use words::put_four;
 
 // `TEMP` as a little-endian number.
 const TEMP: u32 = 0x504D4554;
-
-// The field codes, as the format's Field names them.
-const TTBL_SIZE: u8 = 72;
-
-const TEMP_HEADER: u8 = 80;
-
-const TEMP_SIZE: u8 = 82;
-
-const TEMP_TEMPLATE_ITEMS_OFFSET: u8 = 85;
-
-const TEMP_ITEM_NAME_COUNT_EXPECTED_0: u8 = 88;
-
-const TEMP_TEMPLATE_ITEMS_OFFSET_RELATIVE: u8 = 89;
 
 // Where a TEMP's items stand, from the TEMP's place, its size and its items offset.
 pub fn items_of(temp: BlobPlace, size: u32, offset: BlobPlace) -> Items
