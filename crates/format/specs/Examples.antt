@@ -1,6 +1,7 @@
 -- Computed examples of what the proved cases do not reach: the lent words after a reading, 9, replaced tables, both lookups, the handle.
 use Prim.Native.Nat.{ℕ}
 use mathlib.Core.Path.{_≡_, refl}
+use mathlib.Core.Bool.{true, false}
 use mathlib.Core.List.{List, [], _∷_, _++_}
 use lib.ListN.{replicate}
 use Rattle.blob.specs.Reading.{Outcome, done, refused}
@@ -9,7 +10,7 @@ use Rattle.format.specs.Table.{CHAN, LEVL}
 use Rattle.format.specs.Provider.{definitions, templates, Element, table, unknown}
 use Rattle.format.specs.Lists.{Entry, lastOf, kept}
 use Rattle.format.specs.Answer.{areas, filled, moderate, own, too-small, with-room}
-use Rattle.format.specs.Lookup.{alike, among, byKey, byOffset, counts-fit, entriesFrom, guidsHeld, guidsOf, once, position, select, tablesFit}
+use Rattle.format.specs.Lookup.{alike, among, byKey, byOffset, counts-fit, entriesFrom, guidsHeld, guidsOf, once, position, select, tableFits, tablesFit}
 use Rattle.format.specs.Handle.{shown}
 use Rattle.format.specs.declared.Counts.{Counts}
 use Rattle.format.specs.declared.Key.{Key}
@@ -104,6 +105,13 @@ no-room = refl
 no-kind : lookup 9 1 [] ≡ refused (own 10)
 unfolding byKey guidsOf moderate areas counts-fit entriesFrom position tablesFit select alike among once flat
 no-kind = refl
+
+-- a table entry with an empty range, of a kind and of none
+eighth-kind : tableFits some (0 ∷ 8 ∷ replicate 7 0) ≡ true
+eighth-kind = refl
+
+ninth-kind : tableFits some (0 ∷ 9 ∷ replicate 7 0) ≡ false
+ninth-kind = refl
 
 -- the handle shows a part, or the empty part
 part : shown (1 ∷ 2 ∷ 3 ∷ 4 ∷ []) 3 1 2 ≡ 2 ∷ 3 ∷ []
