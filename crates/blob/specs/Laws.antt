@@ -12,7 +12,7 @@ use Rattle.blob.specs.Le.{le}
 use Rattle.blob.specs.Laid.{laid, laid-more, flat}
 use Rattle.blob.specs.declared.Refusal.{Refusal}
 use Rattle.blob.specs.declared.Verdict.the-variants as verdicts
-use Rattle.blob.specs.Reading.{Reading, got, stop, room, byte, Outcome, done, refused, choose, demand, run, _>>=_, number, many, then, answer, verdict, values}
+use Rattle.blob.specs.Reading.{Reading, got, stop, room, byte, Outcome, done, refused, choose, demand, run, _>>=_, number, many, each, then, answer, verdict, values}
 
 -- a refusal is never a value, and two values are equal where their outcomes are
 pub never : {A : Type 0} (r : Refusal) (a : A) → _≡_ {A = Outcome A} (refused r) (done a) → ⊥
@@ -36,6 +36,10 @@ not-fine r h = let z : _≡_ {A = ℕ} 0 1 = cc in omega arith
 pub fine-done : {A : Type 0} (o : Outcome (List A)) → verdict o ≡ verdicts.Fine → o ≡ done (values o)
 fine-done (done vs) v = refl
 fine-done (refused r) v = absurd (not-fine r v)
+
+pub fine-value : {A : Type 0} (o : Outcome A) → verdict o ≡ verdicts.Fine → (a : A) × (o ≡ done a)
+fine-value (done a) v = (a, refl)
+fine-value (refused r) v = absurd (not-fine r v)
 
 -- what an accepted outcome was made of
 pub then-done : {A B : Type 0} (o : Outcome A) (f : A → Outcome B) (b : B) → then o f ≡ done b → (a : A) × (o ≡ done a) × (f a ≡ done b)
@@ -241,6 +245,39 @@ module _ {S A : Type 0} (p : S → Reading A) (next : A → S → S) where
           let w : verdict (run (many p next n (next a at)) s) ≡ verdicts.Fine = sym (ap verdict (many-suc n at s a e) ∙ same-verdict a _) ∙ v in
           ap (λ o. length (values o)) (many-suc n at s a e) ∙ one-more a _ n w (ih (next a at) w)
 
+  pub many-count : (n : ℕ) (at : S) (s : List ℕ) (vs : List A) → run (many p next n at) s ≡ done vs → length vs ≡ n
+  many-count n at s vs e = sym (ap (λ o. length (values o)) e) ∙ many-length n at s (ap verdict e)
+
+-- One value for each of some others: the first one, and the rest.
+module _ {A B : Type 0} (f : A → Reading B) (s : List ℕ) where
+  pub each-more : (a : A) (vs : List A) (b : B) → run (f a) s ≡ done b → run (each f (a ∷ vs)) s ≡ then (run (each f vs) s) (λ bs. done (b ∷ bs))
+  unfolding each then run
+  each-more a vs b e = simp (run-bind, e)
+
+  pub each-stop : (a : A) (vs : List A) (r : Refusal) → run (f a) s ≡ refused r → run (each f (a ∷ vs)) s ≡ refused r
+  unfolding each
+  each-stop a vs r e = run-stopped (f a) _ s r e
+
+  -- what they tell, with a running state or without: T before a value is T' behind it
+  pub each-told : {R : Type 0} (T T' : Outcome (List B) → R) (a : A) (vs : List A) (b : B)
+      → ((bs : List B) → T (done (b ∷ bs)) ≡ T' (done bs)) → ((r : Refusal) → T (refused r) ≡ T' (refused r)) → run (f a) s ≡ done b
+      → T (run (each f (a ∷ vs)) s) ≡ T' (run (each f vs) s)
+  unfolding then
+  each-told T T' a vs b g h e = ap T (each-more a vs b e) ∙ go (run (each f vs) s)
+    where
+      go : (o : Outcome (List B)) → T (then o (λ bs. done (b ∷ bs))) ≡ T' o
+      go (done bs) = g bs
+      go (refused r) = h r
+
+  -- what an accepted row of them was made of
+  pub each-done : (a : A) (vs : List A) (all : List B) → run (each f (a ∷ vs)) s ≡ done all
+      → (b : B) × (bs : List B) × (run (f a) s ≡ done b) × (run (each f vs) s ≡ done bs) × (all ≡ b ∷ bs)
+  unfolding each run
+  each-done a vs all e =
+      let first = then-done (run (f a) s) _ all (sym (run-bind (f a) _ s) ∙ e) in
+      let rest = then-done (run (each f vs) s) _ all (sym (run-bind (each f vs) _ s) ∙ first .2) in
+      (first .0, rest .0, first .1, rest .1, sym (same _ _ (rest .2)))
+
 -- readings that find the same at each state that P holds of, repeated
 pub many-same : {S A : Type 0} (p q : S → Reading A) (next : A → S → S) (P : S → Type 0) (s : List ℕ) → ((at : S) → P at → run (p at) s ≡ run (q at) s)
     → ((a : A) (at : S) → P at → P (next a at)) → (n : ℕ) (at : S) → P at → run (many p next n at) s ≡ run (many q next n at) s
@@ -249,7 +286,7 @@ many-same p q next P s h g zero at i = refl
 many-same p q next P s h g (suc n) at i =
     bind-same _ _ _ _ s (h at i) (λ a. bind-same _ _ _ _ s (many-same p q next P s h g n (next a at) (g a at i)) (λ vs. refl))
 
-pub length-flat : {A : Type 0} (words : A → List ℕ) (w : ℕ) → ((a : A) → length (words a) ≡ w) → (vs : List A) → length (flat words vs) ≡ w * length vs
+pub length-flat : {A B : Type 0} (words : A → List B) (w : ℕ) → ((a : A) → length (words a) ≡ w) → (vs : List A) → length (flat words vs) ≡ w * length vs
 unfolding flat
 length-flat words w h [] = simp mul-zero
 length-flat words w h (a ∷ vs) = simp (length-append, h a, length-flat words w h vs, mul-suc) (omega arith)

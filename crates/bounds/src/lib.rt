@@ -1,11 +1,12 @@
-// The length checks and region ends, and the refusals that they give.
+// The length checks and region ends, the refusals that they give, and the sum of what lists need.
 ghost use mathlib.Core.Path.{_≡_};
-ghost use Prim.Native.Nat.{_+_};
+ghost use Prim.Native.Nat.{_+_, _≤_};
 ghost use lib.Dec.{leb};
 ghost use lib.ListN.{length};
 ghost use Rattle.blob.specs.Reading.{run, got, verdict};
 ghost use Rattle.format.specs.Refuse as refuse;
 ghost use Rattle.format.specs.Region as region;
+ghost use Rattle.format.specs.Needs.{capped};
 use blob::Refusal;
 use blob::Verdict;
 use format::EndRead;
@@ -143,4 +144,15 @@ pub fn region_end(b: &[u8], field: u8, at: usize, size: u32, least: u32) -> EndR
         return EndRead::End(b.len());
     }
     bounded(b, field, at, size, least)
+}
+
+// So many entries and some more, as far as anyone asks.
+pub fn sum(entries: u32, more: u32) -> u32
+    requires { ⌜ entries ≤ 65537 ⌝ }
+    ensures { λ r. ⌜ r ≡ capped (entries + more) ⌝ }
+{
+    if 65537 - entries < more {
+        return 65537;
+    }
+    entries + more
 }

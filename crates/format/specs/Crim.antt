@@ -4,21 +4,18 @@ use Prim.Native.Nat.{ℕ, _+_, _*_}
 use mathlib.Core.List.{List}
 use lib.ListN.{take}
 use lib.Dec.{leb, eqb}
-use Rattle.blob.specs.Reading.{Reading, got, room, Outcome, done, demand, run, then, _>>=_, number, many}
+use Rattle.blob.specs.Reading.{Reading, got, room, Outcome, done, demand, run, then, _>>=_, number, many, answer}
 use Rattle.format.specs.Field.{CRIM-signature, CRIM-size, CRIM-major-version, CRIM-minor-version, CRIM-provider-count, CRIM-provider-descriptor-array}
 use Rattle.format.specs.Refuse.{whole, wrong-signature, size-out}
 use Rattle.format.specs.Definition.{guidAt, step}
 use Rattle.format.specs.Provider.{Provider, providerAt}
+use Rattle.format.specs.declared.CrimHeader.{CrimHeader}
+use Rattle.format.specs.declared.CrimRead.{CrimRead}
+use Rattle.format.specs.declared.CrimRead.the-variants as header-read
 
 -- `CRIM` as a little-endian number
 abbrev pub CRIM : ℕ
 CRIM = 0x4D495243
-
-pub record CrimHeader : Type 0 where
-  pub size : ℕ
-  pub major : ℕ
-  pub minor : ℕ
-  pub count : ℕ
 
 pub record Crim : Type 0 where
   pub header : CrimHeader
@@ -36,6 +33,10 @@ header =
     demand (leb 16 size) (size-out CRIM-size 0 size) (
     room size (size-out CRIM-size 0 size) (
     got (record { size = size; major = major; minor = minor; count = count })))))))))
+
+-- what the code answers for the header
+abbrev pub crimRead : Outcome CrimHeader → CrimRead
+crimRead o = answer header-read.Header header-read.Refused o
 
 -- "20 bytes per provider from byte 16 (GUID, offset ..), each provider finished before the next is read"
 unfoldable pub describedAt : ℕ → Reading Provider

@@ -8,10 +8,11 @@ pub mod Definition
 pub mod Event
 pub mod Template
 pub mod Map
-pub mod Needs
 pub mod Provider
 pub mod Crim
 pub mod Lists
+pub mod Needs
+pub mod Parts
 pub mod Answer
 pub mod Lookup
 pub mod Handle
@@ -26,5 +27,10 @@ pub mod Determined
 pub mod Said
 pub mod Ends
 pub mod Until
+pub mod Described
 pub mod Rested
 pub mod Block
+pub mod Grows
+pub mod Listed
+pub mod Needed
+pub mod Fits

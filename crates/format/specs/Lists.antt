@@ -18,6 +18,7 @@ use Rattle.format.specs.declared.Map.{Map}
 use Rattle.format.specs.declared.MapEntry.{MapEntry}
 use Rattle.format.specs.declared.Descriptor.{Descriptor}
 use Rattle.format.specs.declared.Unknown.{Unknown}
+use Rattle.format.specs.declared.Written.{Written}
 
 -- an entry is its words
 abbrev pub Entry : Type 0
@@ -105,13 +106,6 @@ unfoldable pub ownedUnknowns : ℕ → List Provider → List Entry
 ownedUnknowns n [] = []
 ownedUnknowns n (p ∷ ps) = map (unknownWords n) (unknowns (p .elements)) ++ ownedUnknowns (suc n) ps
 
--- how many entries were written before, in the lists that tables have entries in
-pub record Written : Type 0 where
-  pub definitions : ℕ
-  pub events : ℕ
-  pub maps : ℕ
-  pub templates : ℕ
-
 -- "First entry of an empty table or VMAP is the number of entries written before it."
 abbrev pub before : Written → Rows → ℕ
 before w (definitions ds) = w .definitions
@@ -125,11 +119,19 @@ rowCount (events es) = length es
 rowCount (maps ms) = length ms
 rowCount (templates ts) = length ts
 
+abbrev pub none-written : Written
+none-written = record { tables = 0; definitions = 0; events = 0; maps = 0; templates = 0 }
+
+-- what was written, with one more table
 abbrev pub written : Written → Rows → Written
-written w (definitions ds) = record { definitions = w .definitions + length ds; events = w .events; maps = w .maps; templates = w .templates }
-written w (events es) = record { definitions = w .definitions; events = w .events + length es; maps = w .maps; templates = w .templates }
-written w (maps ms) = record { definitions = w .definitions; events = w .events; maps = w .maps + length ms; templates = w .templates }
-written w (templates ts) = record { definitions = w .definitions; events = w .events; maps = w .maps; templates = w .templates + length ts }
+written w (definitions ds) =
+    record { tables = w .tables + 1; definitions = w .definitions + length ds; events = w .events; maps = w .maps; templates = w .templates }
+written w (events es) =
+    record { tables = w .tables + 1; definitions = w .definitions; events = w .events + length es; maps = w .maps; templates = w .templates }
+written w (maps ms) =
+    record { tables = w .tables + 1; definitions = w .definitions; events = w .events; maps = w .maps + length ms; templates = w .templates }
+written w (templates ts) =
+    record { tables = w .tables + 1; definitions = w .definitions; events = w .events; maps = w .maps; templates = w .templates + length ts }
 
 -- "4 tables | 9 | provider number, kind, offset, size, extra, first entry, count, trailing start, trailing length"
 abbrev pub tableWords : Written → Owned → Entry
@@ -178,7 +180,7 @@ lists ps =
     map providerWords ps
     ∷ flat (λ p. map descriptorWords (p .descriptors)) ps
     ∷ flat (λ p. map unknown2Words (p .unknown2)) ps
-    ∷ tableEntries (record { definitions = 0; events = 0; maps = 0; templates = 0 }) tables
+    ∷ tableEntries none-written tables
     ∷ flat (λ o. map definitionWords (definitionsIn (o .table .rows))) tables
     ∷ flat (λ o. map eventWords (eventsIn (o .table .rows))) tables
     ∷ mapList 0 all-maps

@@ -106,6 +106,10 @@ descriptorAt at =
     number 4 offset >>= λ signature.
     got (record { offset = offset; unknown = unknown; signature = signature })))
 
+-- the elements of n descriptors from a place on
+abbrev pub elementsFrom : ℕ → ℕ → Reading (List Element)
+elementsFrom n at = many descriptorAt (step 8) n at >>= each elementAt
+
 -- what the code answers for a descriptor
 abbrev pub descriptorRead : Outcome Descriptor → DescriptorRead
 descriptorRead o = answer descriptor.Descriptor descriptor.Refused o

@@ -25,7 +25,8 @@ use Rattle.format.specs.Event.{eventAt}
 use Rattle.format.specs.Template.{itemsAt, templateAt, templatesAt, next}
 use Rattle.format.specs.Map.{VMAP, BMAP, entryAt, valueMapAt, otherMap, mapAt, mapsAt}
 use Rattle.format.specs.Provider.{Table, definitions, plain, elementOf, eventsAt, tableAt, unknownAt, elementAt, descriptorAt, wevtAt, providerAt}
-use Rattle.format.specs.Crim.{CRIM, CrimHeader, Crim, header, describedAt, providersOf, crim}
+use Rattle.format.specs.declared.CrimHeader.{CrimHeader}
+use Rattle.format.specs.Crim.{CRIM, Crim, header, describedAt, providersOf, crim}
 use Rattle.format.specs.Rests.{nameBytes, definitionBytes, mapBytes, mapsBytes, tableBytes, elementBytes, descriptorBytes, providerBytes, providersBytes, restsOn}
 use Rattle.format.specs.declared.Header.{Header}
 use Rattle.format.specs.declared.Name.{Name}
@@ -45,7 +46,7 @@ unfolding span
 asked-empty at w h = rw h asked-none
 
 -- what holds of each of some kinds, and of none, holds of the kind that a signature names
-kind-cases : (P : ℕ → Type 0) (ks : List ℕ) (sig : ℕ) → P 0 → Each P ks → P (kindIn ks sig)
+pub kind-cases : (P : ℕ → Type 0) (ks : List ℕ) (sig : ℕ) → P 0 → Each P ks → P (kindIn ks sig)
 unfolding kindIn
 kind-cases P [] sig none h = none
 kind-cases P (k ∷ ks) sig none h = go (eqb sig (signature k)) (kind-cases P ks sig none (h .1))

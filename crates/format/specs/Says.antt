@@ -19,12 +19,18 @@ use Rattle.format.specs.declared.TemplateRead.{TemplateRead}
 use Rattle.format.specs.declared.TemplateRead.the-variants as temps
 use Rattle.format.specs.declared.MapRead.{MapRead}
 use Rattle.format.specs.declared.MapRead.the-variants as maps
-use Rattle.format.specs.declared.MapsRead.{MapsRead}
-use Rattle.format.specs.declared.MapsRead.the-variants as entries
+use Rattle.format.specs.declared.EntriesRead.{EntriesRead}
+use Rattle.format.specs.declared.EntriesRead.the-variants as entries
 use Rattle.format.specs.declared.WevtRead.{WevtRead}
 use Rattle.format.specs.declared.WevtRead.the-variants as wevts
 use Rattle.format.specs.declared.DescriptorRead.{DescriptorRead}
 use Rattle.format.specs.declared.DescriptorRead.the-variants as descriptors
+use Rattle.format.specs.declared.ElementsRead.{ElementsRead}
+use Rattle.format.specs.declared.ElementsRead.the-variants as elements
+use Rattle.format.specs.declared.NeedsRead.{NeedsRead}
+use Rattle.format.specs.declared.NeedsRead.the-variants as needed
+use Rattle.format.specs.declared.CrimRead.{CrimRead}
+use Rattle.format.specs.declared.CrimRead.the-variants as crims
 use Rattle.format.specs.declared.TemplateFound.{TemplateFound}
 use Rattle.format.specs.declared.TemplateFound.the-variants as templates
 use Rattle.format.specs.declared.GuidsFound.{GuidsFound}
@@ -71,9 +77,21 @@ abbrev pub mapSays : MapRead → Refusal
 mapSays (maps.Map m) = fine
 mapSays (maps.Refused r) = r
 
-abbrev pub mapsSays : MapsRead → Refusal
-mapsSays (entries.Entries n) = fine
-mapsSays (entries.Refused r) = r
+abbrev pub entriesSays : EntriesRead → Refusal
+entriesSays (entries.Entries n) = fine
+entriesSays (entries.Refused r) = r
+
+abbrev pub elementsSays : ElementsRead → Refusal
+elementsSays (elements.Fine u n) = fine
+elementsSays (elements.Refused r) = r
+
+abbrev pub needsSays : NeedsRead → Refusal
+needsSays (needed.Needs c) = fine
+needsSays (needed.Refused r) = r
+
+abbrev pub crimSays : CrimRead → Refusal
+crimSays (crims.Header h) = fine
+crimSays (crims.Refused r) = r
 
 abbrev pub wevtSays : WevtRead → Refusal
 wevtSays (wevts.Wevt w) = fine

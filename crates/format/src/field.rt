@@ -1,12 +1,34 @@
 // The field codes that refusals carry, by the names of specs/Field.antt; docs/FIELDS.md has their texts. A table's are those of kind 0:
 // six times the kind is added.
+pub const CRIM_SIGNATURE: u8 = 1;
+
+pub const CRIM_SIZE: u8 = 2;
+
+pub const CRIM_MAJOR_VERSION: u8 = 3;
+
+pub const CRIM_MINOR_VERSION: u8 = 4;
+
+pub const CRIM_PROVIDER_COUNT: u8 = 5;
+
+pub const CRIM_PROVIDER_DESCRIPTOR_ARRAY: u8 = 6;
+
 pub const WEVT_PROVIDER_OFFSET: u8 = 9;
 
 pub const WEVT_HEADER: u8 = 10;
 
+pub const WEVT_DESCRIPTOR_ARRAY: u8 = 16;
+
 pub const WEVT_ELEMENT_OFFSET: u8 = 19;
 
 pub const WEVT_ELEMENT_SIGNATURE: u8 = 20;
+
+pub const WEVT_UNKNOWN2_ARRAY: u8 = 21;
+
+pub const PROVIDER_ELEMENT_OFFSET: u8 = 23;
+
+pub const UNKNOWN_ELEMENT_HEADER: u8 = 24;
+
+pub const UNKNOWN_ELEMENT_END: u8 = 26;
 
 pub const TABLE_OFFSET: u8 = 21;
 

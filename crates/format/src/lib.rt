@@ -131,8 +131,8 @@ pub enum MapRead {
     Refused(Refusal),
 }
 
-// What checking a MAPS finds: how many map entries its maps have, where it stops rising at 65,537.
-pub enum MapsRead {
+// What checking a MAPS, or any element, finds: how many map entries it has, where it stops rising at 65,537.
+pub enum EntriesRead {
     Entries(u32),
     Refused(Refusal),
 }
@@ -177,6 +177,31 @@ pub struct Unknown {
     pub size: u32,
 }
 
+// What checking a provider's elements finds: how many are of no known kind, and how many map entries the MAPS that is kept has, where it
+// stops rising at 65,537.
+pub enum ElementsRead {
+    Fine(u32, u32),
+    Refused(Refusal),
+}
+
+// How many entries were written before: tables, and the entries that they have in the lists of their kinds.
+pub struct Written {
+    pub tables: u32,
+    pub definitions: u32,
+    pub events: u32,
+    pub maps: u32,
+    pub templates: u32,
+}
+
+// How far the filling of a list has come: the provider's number, the tables and the map entries that were written before, and where in
+// the list's area the next entry goes.
+pub struct Walk {
+    pub number: u32,
+    pub written: Written,
+    pub entries: u32,
+    pub to: usize,
+}
+
 // A number for each of the ten lists, in list order: entry counts, or capacities.
 pub struct Counts {
     pub providers: u32,
@@ -189,6 +214,26 @@ pub struct Counts {
     pub entries: u32,
     pub templates: u32,
     pub unknown: u32,
+}
+
+// What checking a provider, or a run of them, finds: how many entries each list needs for it, where each number stops rising at 65,537.
+pub enum NeedsRead {
+    Needs(Counts),
+    Refused(Refusal),
+}
+
+// The header of the CRIM block.
+pub struct CrimHeader {
+    pub size: u32,
+    pub major: u32,
+    pub minor: u32,
+    pub count: u32,
+}
+
+// What reading the block's header finds.
+pub enum CrimRead {
+    Header(CrimHeader),
+    Refused(Refusal),
 }
 
 // The answer of a reading.

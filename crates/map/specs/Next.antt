@@ -8,15 +8,15 @@ use Rattle.blob.specs.declared.Refusal.{Refusal}
 use Rattle.blob.specs.declared.Verdict.the-variants as verdicts
 use Rattle.blob.specs.Laid.{laid, flat}
 use Rattle.blob.specs.Reading.{Outcome, done, refused, run, many, verdict, values}
-use Rattle.blob.specs.Laws.{not-fine, many-more, many-stop, many-length, values-more, fill-more, told-more, length-flat}
+use Rattle.blob.specs.Laws.{not-fine, many-more, many-stop, many-length, values-more, values-none, fill-more, told-more, length-flat}
 use Rattle.format.specs.Definition.{step}
 use Rattle.format.specs.Map.{Mapped, entryAt, mapRead}
 use Rattle.format.specs.Needs.{capped, entryCount, mapsRead}
 use Rattle.format.specs.Lists.{mapWords, mapEntryWords, mapList}
 use Rattle.format.specs.declared.Map.{Map}
 use Rattle.format.specs.declared.MapRead.the-variants as read
-use Rattle.format.specs.declared.MapsRead.{MapsRead}
-use Rattle.format.specs.declared.MapsRead.the-variants as maps
+use Rattle.format.specs.declared.EntriesRead.{EntriesRead}
+use Rattle.format.specs.declared.EntriesRead.the-variants as maps
 use Rattle.map.specs.Decides.{entries, entries-fine, Told, is-map, is-refused}
 use Rattle.map.specs.Listed.{listedAt, listed-told}
 
@@ -32,7 +32,7 @@ abbrev pub entriesWords : List Mapped → List ℕ
 entriesWords ms = flat (λ m. flat mapEntryWords (m .entries)) ms
 
 -- what the code answers once so many entries were counted
-abbrev pub countedFrom : ℕ → Outcome (List Mapped) → MapsRead
+abbrev pub countedFrom : ℕ → Outcome (List Mapped) → EntriesRead
 countedFrom n (done ms) = maps.Entries (capped (n + entryCount ms))
 countedFrom n (refused r) = maps.Refused r
 
@@ -52,6 +52,11 @@ one-map n x m p q ms = rw (p, q)
 
 told-count : (s : List ℕ) (m : Mapped) → Told s m → length (m .entries) ≡ m .map .count
 told-count s m t = ap length (t .entries) ∙ many-length entryAt (step 8) _ _ s (entries-fine _ _ s)
+
+-- once no map is left, no entry is
+pub count-none : (e start first : ℕ) (s : List ℕ) (left place : ℕ) → left ≤ 0 → entryCount (values (unread e start first s left place)) ≡ 0
+unfolding entryCount
+count-none e start first s left place h = ap entryCount (values-none (listedAt e start first) (step 4) left place s h)
 
 module _ (e start first : ℕ) (s : List ℕ) (left place : ℕ) (h : 0 < left) where
   pub never-refused : (r : Refusal) → read.Refused r ≡ mapRead (run (listedAt e start first place) s) → verdict (unread e start first s left place) ≡ verdicts.Fine → ⊥

@@ -17,10 +17,10 @@ ghost use Rattle.map.specs.Listed.{listedAt, listed};
 use blob::Refusal;
 use blob::Verdict;
 use format::EndRead;
+use format::EntriesRead;
 use format::Header;
 use format::Map;
 use format::MapRead;
-use format::MapsRead;
 use format::Name;
 use format::NameRead;
 use format::field::MAPS_MAP_OFFSET;
@@ -170,19 +170,8 @@ fn listed_at(b: &[u8], end: usize, start: usize, first: usize, place: usize) -> 
     map_at(b, end, blob::word(b, place) as usize)
 }
 
-// So many entries and some more, as far as anyone asks.
-fn sum(entries: u32, more: u32) -> u32
-    requires { ⌜ entries ≤ 65537 ⌝ }
-    ensures { λ r. ⌜ r ≡ capped (entries + more) ⌝ }
-{
-    if 65537 - entries < more {
-        return 65537;
-    }
-    entries + more
-}
-
 // How many entries the maps have, n offsets from `start` on, the first of them that of map 0.
-fn counted(b: &[u8], end: usize, start: usize, n: u32) -> MapsRead
+fn counted(b: &[u8], end: usize, start: usize, n: u32) -> EntriesRead
     requires { ⌜ (end ≤ length (now b)) × (start + 4 * n ≤ length (now b)) × (length (now b) ≤ 16777216) ⌝ }
     ensures { λ r. ⌜ r ≡ mapsRead (run (listed end start n) (now (b .entry))) ⌝ }
 {
@@ -192,25 +181,25 @@ fn counted(b: &[u8], end: usize, start: usize, n: u32) -> MapsRead
     let mut entries = 0;
     while 0 < left {
         match listed_at(b, end, start, first, place) {
-            MapRead::Refused(r) => return MapsRead::Refused(r),
-            MapRead::Map(m) => entries = sum(entries, m.count),
+            MapRead::Refused(r) => return EntriesRead::Refused(r),
+            MapRead::Map(m) => entries = bounds::sum(entries, m.count),
         }
         place += 4;
         left -= 1;
     }
-    MapsRead::Entries(entries)
+    EntriesRead::Entries(entries)
 }
 
 // Whether the MAPS whose header stands at a place is fine, and how many entries its maps have.
-pub fn check(b: &[u8], at: usize, h: Header) -> MapsRead
+pub fn check(b: &[u8], at: usize, h: Header) -> EntriesRead
     requires { ⌜ (at + 16 ≤ length (now b)) × (length (now b) ≤ 16777216) ⌝ }
     ensures { λ r. ⌜ r ≡ mapsRead (run (mapsAt at h) (now (b .entry))) ⌝ }
 {
     match bounds::region_end(b, MAPS_SIZE, at, h.size, 16) {
-        EndRead::Refused(r) => MapsRead::Refused(r),
+        EndRead::Refused(r) => EntriesRead::Refused(r),
         EndRead::End(end) => {
             if b.len() < at + 12 + 4 * (h.count as usize) {
-                return MapsRead::Refused(bounds::size_out(MAPS_OFFSETS_ARRAY, at, h.size));
+                return EntriesRead::Refused(bounds::size_out(MAPS_OFFSETS_ARRAY, at, h.size));
             }
             counted(b, end, at + 12, h.count)
         }
@@ -235,12 +224,13 @@ fn put_map(area: &mut [u32], to: usize, before: u32, m: Map)
     area[to + 10] = m.length;
 }
 
-// Stores the words of n maps; so many entries were stored before theirs.
-fn put_maps(b: &[u8], end: usize, start: usize, n: u32, before: u32, area: &mut [u32])
+// Stores the words of n maps; so many entries were stored before theirs, and so many with theirs.
+fn put_maps(b: &[u8], end: usize, start: usize, n: u32, before: u32, area: &mut [u32]) -> u32
     requires { ⌜ (end ≤ length (now b)) × (start + 4 * n ≤ length (now b)) × (length (now b) ≤ 16777216) ⌝ }
     requires { ⌜ verdict (run (listed end start n) (now b)) ≡ Verdict.Fine ⌝ }
     requires { ⌜ 11 * n ≤ length (now area) ⌝ }
     requires { ⌜ before + entryCount (values (run (listed end start n) (now b))) ≤ 65536 ⌝ }
+    ensures { λ r. ⌜ r ≡ before + entryCount (values (run (listed end start n) (now (b .entry)))) ⌝ }
     ensures { λ _. ⌜ now (area .exit) ≡ laid (now (area .entry)) 0 (flat (λ e. e) (mapList before (values (run (listed end start n) (now (b .entry)))))) ⌝ }
 {
     let first = start + 4 * (n as usize);
@@ -250,7 +240,7 @@ fn put_maps(b: &[u8], end: usize, start: usize, n: u32, before: u32, area: &mut 
     let mut to = 0;
     while 0 < left {
         let MapRead::Map(m) = listed_at(b, end, start, first, place) else {
-            return;
+            return before;
         };
         put_map(area, to, entries, m);
         entries += m.count;
@@ -258,20 +248,23 @@ fn put_maps(b: &[u8], end: usize, start: usize, n: u32, before: u32, area: &mut 
         left -= 1;
         to += 11;
     }
+    entries
 }
 
-// Stores list 7's words of the maps of a MAPS that `check` found fine; so many entries were stored before theirs.
-pub fn fill_maps(b: &[u8], at: usize, h: Header, before: u32, area: &mut [u32])
+// Stores list 7's words of the maps of a MAPS that `check` found fine; so many entries were stored before theirs. Hands
+// back how many were, with theirs.
+pub fn fill_maps(b: &[u8], at: usize, h: Header, before: u32, area: &mut [u32]) -> u32
     requires { ⌜ (at + 16 ≤ length (now b)) × (length (now b) ≤ 16777216) ⌝ }
     requires { ⌜ verdict (run (mapsAt at h) (now b)) ≡ Verdict.Fine ⌝ }
     requires { ⌜ 11 * h .count ≤ length (now area) ⌝ }
     requires { ⌜ before + entryCount (values (run (mapsAt at h) (now b))) ≤ 65536 ⌝ }
+    ensures { λ r. ⌜ r ≡ before + entryCount (values (run (mapsAt at h) (now (b .entry)))) ⌝ }
     ensures { λ _. ⌜ now (area .exit) ≡ laid (now (area .entry)) 0 (flat (λ e. e) (mapList before (values (run (mapsAt at h) (now (b .entry)))))) ⌝ }
 {
     let EndRead::End(end) = bounds::region_end(b, MAPS_SIZE, at, h.size, 16) else {
-        return;
+        return before;
     };
-    put_maps(b, end, at + 12, h.count, before, area);
+    put_maps(b, end, at + 12, h.count, before, area)
 }
 
 // Stores the words of the entry at a place.
@@ -301,11 +294,12 @@ fn put_entries(b: &[u8], start: usize, n: u32, area: &mut [u32], from: usize)
     }
 }
 
-// Stores the words of the entries of n maps.
-fn put_map_entries(b: &[u8], end: usize, start: usize, n: u32, area: &mut [u32])
+// Stores the words of the entries of n maps; hands back how many words they are.
+fn put_map_entries(b: &[u8], end: usize, start: usize, n: u32, area: &mut [u32]) -> usize
     requires { ⌜ (end ≤ length (now b)) × (start + 4 * n ≤ length (now b)) × (length (now b) ≤ 16777216) ⌝ }
     requires { ⌜ verdict (run (listed end start n) (now b)) ≡ Verdict.Fine ⌝ }
     requires { ⌜ 2 * entryCount (values (run (listed end start n) (now b))) ≤ length (now area) ⌝ }
+    ensures { λ r. ⌜ r ≡ 2 * entryCount (values (run (listed end start n) (now (b .entry)))) ⌝ }
     ensures { λ _. ⌜ now (area .exit) ≡ laid (now (area .entry)) 0 (flat (λ m. flat mapEntryWords (m .entries)) (values (run (listed end start n) (now (b .entry))))) ⌝ }
 {
     let first = start + 4 * (n as usize);
@@ -314,24 +308,26 @@ fn put_map_entries(b: &[u8], end: usize, start: usize, n: u32, area: &mut [u32])
     let mut to = 0;
     while 0 < left {
         let MapRead::Map(m) = listed_at(b, end, start, first, place) else {
-            return;
+            return 0;
         };
         put_entries(b, m.offset as usize + 16, m.count, area, to);
         to += 2 * (m.count as usize);
         place += 4;
         left -= 1;
     }
+    to
 }
 
-// Stores list 8's words of the maps of a MAPS that `check` found fine.
-pub fn fill_entries(b: &[u8], at: usize, h: Header, area: &mut [u32])
+// Stores list 8's words of the maps of a MAPS that `check` found fine; hands back how many words they are.
+pub fn fill_entries(b: &[u8], at: usize, h: Header, area: &mut [u32]) -> usize
     requires { ⌜ (at + 16 ≤ length (now b)) × (length (now b) ≤ 16777216) ⌝ }
     requires { ⌜ verdict (run (mapsAt at h) (now b)) ≡ Verdict.Fine ⌝ }
     requires { ⌜ 2 * entryCount (values (run (mapsAt at h) (now b))) ≤ length (now area) ⌝ }
+    ensures { λ r. ⌜ r ≡ 2 * entryCount (values (run (mapsAt at h) (now (b .entry)))) ⌝ }
     ensures { λ _. ⌜ now (area .exit) ≡ laid (now (area .entry)) 0 (flat (λ m. flat mapEntryWords (m .entries)) (values (run (mapsAt at h) (now (b .entry))))) ⌝ }
 {
     let EndRead::End(end) = bounds::region_end(b, MAPS_SIZE, at, h.size, 16) else {
-        return;
+        return 0;
     };
-    put_map_entries(b, end, at + 12, h.count, area);
+    put_map_entries(b, end, at + 12, h.count, area)
 }

@@ -5,15 +5,16 @@ use mathlib.Core.List.{List, [], _∷_}
 use native.Mathlib.Nat.{mul-le-mul}
 use native.Mathlib.Omega.{arith}
 use lib.ListN.{length, getD}
-use borrow.Author.Tests.{eq-eqb, ne-eqb, le-leb, lt-leb}
+use lib.Dec.{eqb}
+use borrow.Author.Tests.{eq-eqb, ne-eqb, le-leb, lt-leb, leb-true}
 use Rattle.blob.specs.Le.{le}
 use Rattle.blob.specs.Places.{Each}
 use Rattle.blob.specs.Reading.{done, refused, run}
 use Rattle.blob.specs.Laws.{run-number, run-room, run-past, run-holds, run-fails, run-after, run-stopped}
+use Rattle.blob.specs.Asks.{Finds, finds-got, finds-room, finds-choose, finds-demand, finds-bind}
 use Rattle.format.specs.Field.{table-offset, table-header, table-size, table-array}
 use Rattle.format.specs.Refuse.{offset-out, truncated, wrong-signature, size-out}
 use Rattle.format.specs.Region.{bounded}
-use Rattle.format.specs.Rested.{end-asks}
 use Rattle.blob.specs.declared.Refusal.{Refusal}
 use Rattle.format.specs.declared.Header.{Header}
 use Rattle.format.specs.Table.{signature, header-length, stride, headerAt, tableEnd}
@@ -75,9 +76,19 @@ module _ (k at : ℕ) (h : Header) (s : List ℕ) where
   unfolding tableEnd run
   end-by-count z g = rw (z, run-room)
 
-  -- the records of a table that ends lie in the blob
+  end-bounded : Finds (tableEnd k at h) s (λ e ps. (start + bytes ≤ e) × (e ≤ length s))
+  unfolding tableEnd bounded
+  end-bounded =
+      finds-choose (eqb (h .size) 0) (λ z. finds-room (λ w. finds-got (omega arith, w))) (λ z.
+      finds-bind (λ e ps. e ≤ length s) (finds-demand _ _ (λ d. finds-room (λ w. finds-got w))) (λ e ps w.
+      finds-demand _ _ (λ d. finds-got (leb-true _ _ d, w))))
+
+  -- a table that ends has its records before its end, and ends in the blob
+  pub end-bounds : (e : ℕ) → run (tableEnd k at h) s ≡ done e → (start + bytes ≤ e) × (e ≤ length s)
+  end-bounds e g = end-bounded .found e g
+
   pub end-fits : (e : ℕ) → run (tableEnd k at h) s ≡ done e → start + bytes ≤ length s
-  end-fits e g = end-asks s k at h .found e g .1
+  end-fits e g = let b = end-bounds e g in omega arith
 
   module _ (f least : ℕ) (ef : f ≡ table-size k) (el : least ≡ header-length k) (z : h .size ≡ 0 → ⊥) where
     pub end-unbounded : (r : Refusal) → run (bounded f at (h .size) least) s ≡ refused r → run (tableEnd k at h) s ≡ refused r

@@ -1,7 +1,7 @@
 -- The region's end, the room for the offsets, and the row of maps, by the laws of Listed.
 use mathlib.Core.Path.{ap, sym, _∙_}
 use native.Mathlib.Omega.{arith}
-use Rattle.format.specs.declared.MapsRead.the-variants as maps
+use Rattle.format.specs.declared.EntriesRead.the-variants as maps
 use Rattle.format.specs.Needs.{mapsRead}
 use Rattle.format.specs.Ends.{region-bounds}
 use Rattle.map.specs.Listed.{maps-refused, maps-cut, maps-listed}

@@ -11,14 +11,14 @@ use Rattle.blob.specs.Laws.{fill-none}
 use Rattle.format.specs.Definition.{step}
 use Rattle.format.specs.Needs.{entryCount}
 use Rattle.map.specs.Listed.{listedAt, listed}
-use Rattle.map.specs.Next.{unread, entriesWords, never-refused, next-inside, next-fine, next-count, next-entries}
+use Rattle.map.specs.Next.{unread, entriesWords, count-none, never-refused, next-inside, next-fine, next-count, next-entries}
 use Rattle.map.proofs.put_map_entries.Statement.{statement}
 use Rattle.map.proofs.put_map_entries.Tie as tie
 
 abbrev Inv-loop : tie.InvT-loop
 Inv-loop b end start n area₀ first place₀ left₀ to₀ area place left to =
     (place + 4 * left ≤ length b)
-    × (to + 2 * entryCount (values (unread end start first b left place)) ≤ length area)
+    × (to + 2 * entryCount (values (unread end start first b left place)) ≡ 2 * entryCount (values (run (listed end start n) b)))
     × (length area ≡ length area₀)
     × (verdict (unread end start first b left place) ≡ verdicts.Fine)
     × (laid area₀ 0 (entriesWords (values (run (listed end start n) b))) ≡ laid area to (entriesWords (values (unread end start first b left place))))
@@ -111,7 +111,12 @@ same-length-2 c = search needs
 
 returns-2 : tie.Need-returns-2 Inv-loop μ-loop
 unfolding flat
-returns-2 c = sym (c .before .loop .inv .4 ∙ fill-none (listedAt _ _ _) (step 4) entriesWords _ _ _ _ _ refl (c .loop-test .left))
+returns-2 c =
+    let inv = c .before .loop .inv in
+    let h = c .loop-test .left in (
+      omega (arith, rw count-none at (inv .1)),
+      sym (inv .4 ∙ fill-none (listedAt _ _ _) (step 4) entriesWords _ _ _ _ _ refl h),
+    )
 
 pub put-map-entries-spec : {M : Type 1} → statement M
 put-map-entries-spec =

@@ -12,7 +12,7 @@ use Rattle.format.specs.Definition.{step}
 use Rattle.format.specs.Needs.{entryCount}
 use Rattle.format.specs.Lists.{mapList}
 use Rattle.map.specs.Listed.{listedAt, listed}
-use Rattle.map.specs.Next.{unread, mapsWords, never-refused, next-fine, next-count, next-maps}
+use Rattle.map.specs.Next.{unread, mapsWords, count-none, never-refused, next-fine, next-count, next-maps}
 use Rattle.map.proofs.put_maps.Statement.{statement}
 use Rattle.map.proofs.put_maps.Tie as tie
 
@@ -22,7 +22,7 @@ Inv-loop b end start n before area₀ first place₀ left₀ entries₀ to₀ ar
     × (to + 11 * left ≤ length area)
     × (length area ≡ length area₀)
     × (verdict (unread end start first b left place) ≡ verdicts.Fine)
-    × (entries + entryCount (values (unread end start first b left place)) ≤ 65536)
+    × (entries + entryCount (values (unread end start first b left place)) ≡ before + entryCount (values (run (listed end start n) b)))
     × (laid area₀ 0 (mapsWords before (values (run (listed end start n) b))) ≡ laid area to (mapsWords entries (values (unread end start first b left place))))
 
 abbrev μ-loop : tie.MeasureT-loop
@@ -35,7 +35,7 @@ add-first : tie.Need-add-first Inv-loop μ-loop
 add-first c = search needs
 
 loop-holds : tie.Need-loop-holds Inv-loop μ-loop
-loop-holds c = (search needs, search needs, refl, search needs, search needs, refl)
+loop-holds c = (search needs, search needs, refl, search needs, refl, refl)
 
 listed-at-requires : tie.Need-listed-at-requires Inv-loop μ-loop
 listed-at-requires c κs = search needs
@@ -61,7 +61,9 @@ add-entries : tie.Need-add-entries Inv-loop μ-loop
 add-entries c =
     let l = c .before .before .before .before .before .before in
     let m = l .before .before in
-    omega (arith, next-count _ _ _ _ _ _ (m .before .loop-test .taken) (omega arith) _ (sym (l .m .given .1) ∙ m .listed-at .ensures) (m .before .before .loop .inv .3))
+    let inv = m .before .before .loop .inv in
+    omega
+    (arith, inv .4, m .before .before .before .before .before .pre .1 .1 .1, next-count _ _ _ _ _ _ (m .before .loop-test .taken) (omega arith) _ (sym (l .m .given .1) ∙ m .listed-at .ensures) (inv .3))
 
 add-place : tie.Need-add-place Inv-loop μ-loop
 add-place c = search needs
@@ -100,7 +102,12 @@ same-length-2 c = search needs
 
 returns-2 : tie.Need-returns-2 Inv-loop μ-loop
 unfolding flat mapList
-returns-2 c = sym (c .before .loop .inv .5 ∙ fill-none (listedAt _ _ _) (step 4) (mapsWords _) _ _ _ _ _ refl (c .loop-test .left))
+returns-2 c =
+    let inv = c .before .loop .inv in
+    let h = c .loop-test .left in (
+      omega (arith, rw count-none at (inv .4)),
+      sym (inv .5 ∙ fill-none (listedAt _ _ _) (step 4) (mapsWords _) _ _ _ _ _ refl h),
+    )
 
 pub put-maps-spec : {M : Type 1} → statement M
 put-maps-spec =

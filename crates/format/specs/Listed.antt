@@ -1,0 +1,185 @@
+-- Filling by Parts is what Lists says: the words of a list are those that the walk stores, provider by provider and table by table.
+use Prim.Native.Nat.{ℕ, suc, _+_, _-_, _≤_}
+use mathlib.Core.Path.{_≡_, refl, ap, sym, _∙_}
+use mathlib.Core.Bool.{Bool, true, false}
+use mathlib.Core.List.{List, [], _∷_, _++_, map, append-assoc}
+use native.Mathlib.Nat.{add-zero, add-assoc}
+use native.Mathlib.Numerals.{add-one}
+use native.Mathlib.Omega.{arith}
+use borrow.Author.Tests.{eqb-true, eqb-false}
+use lib.Dec.{eqb}
+use lib.ListN.{length, getD}
+use Rattle.blob.specs.Laid.{flat, flat-append, flat-single, flat-map, flat-flat, map-flat}
+use Rattle.format.specs.Map.{Mapped}
+use Rattle.format.specs.Provider.{Rows, Table, Provider}
+use Rattle.format.specs.Lists.{Entry, providerWords, descriptorWords, unknown2Words, definitionWords, eventWords, mapEntryWords, templateWords, unknownWords, kept, unknowns, Owned, ownedTables, ownedUnknowns, none-written, tableEntries, definitionsIn, eventsIn, mapsIn, templatesIn, mapList, lists}
+use Rattle.format.specs.Needs.{entryCount}
+use Rattle.format.specs.Parts.{start, walked, walkedAll, tablePart, tableParts, part, passed, parts}
+use Rattle.format.specs.Grows.{walkedAll-ahead}
+use Rattle.format.specs.declared.Walk.{Walk}
+use Rattle.format.specs.declared.MapEntry.{MapEntry}
+
+-- what a provider's kept tables have, in their order
+abbrev pub of-tables : {B : Type 0} → (Rows → List B) → Provider → List B
+of-tables items p = flat (λ t. items (t .rows)) (kept (p .elements))
+
+abbrev pub entriesIn : Rows → List MapEntry
+entriesIn r = flat (λ m. m .entries) (mapsIn r)
+
+abbrev owned : ℕ → List Table → List Owned
+owned n ts = map (λ t. record { provider = n; table = t }) ts
+
+-- the tables with their providers' numbers have what the tables have
+owned-flat : {B : Type 0} (items : Rows → List B) (n : ℕ) (ps : List Provider) → flat (λ o. items (o .table .rows)) (ownedTables n ps) ≡ flat (of-tables items) ps
+unfolding flat ownedTables
+owned-flat items n [] = refl
+owned-flat {B} items n (p ∷ ps) =
+    let f : Owned → List B = λ o. items (o .table .rows) in
+    flat-append f (owned n (kept (p .elements))) (ownedTables (suc n) ps)
+    ∙ rw (flat-map f (λ t. record { provider = n; table = t }) (kept (p .elements)), owned-flat items (suc n) ps)
+
+owned-map : {B : Type 0} (words : B → Entry) (items : Rows → List B) (ps : List Provider)
+    → flat (λ o. map words (items (o .table .rows))) (ownedTables 0 ps) ≡ map words (flat (of-tables items) ps)
+owned-map words items ps = sym (map-flat words (λ o. items (o .table .rows)) (ownedTables 0 ps)) ∙ ap (map words) (owned-flat items 0 ps)
+
+-- each list as the words of its entries, one entry after another; in lists 4, 7 and 10 the words go by what was before
+abbrev pub itemized : List Provider → List (List Entry)
+itemized ps =
+    map providerWords (flat (λ p. p ∷ []) ps)
+    ∷ map descriptorWords (flat (λ p. p .descriptors) ps)
+    ∷ map unknown2Words (flat (λ p. p .unknown2) ps)
+    ∷ tableEntries none-written (ownedTables 0 ps)
+    ∷ map definitionWords (flat (of-tables definitionsIn) ps)
+    ∷ map eventWords (flat (of-tables eventsIn) ps)
+    ∷ mapList 0 (flat (of-tables mapsIn) ps)
+    ∷ map mapEntryWords (flat (of-tables entriesIn) ps)
+    ∷ map templateWords (flat (of-tables templatesIn) ps)
+    ∷ ownedUnknowns 0 ps
+    ∷ []
+
+all-entries : (ps : List Provider) → flat (λ m. m .entries) (flat (of-tables mapsIn) ps) ≡ flat (of-tables entriesIn) ps
+all-entries ps = simp (flat-flat (λ m. m .entries) (of-tables mapsIn), flat-flat (λ m. m .entries) (λ (t : Table). mapsIn (t .rows)))
+
+pub lists-itemized : (ps : List Provider) → lists ps ≡ itemized ps
+unfolding lists
+lists-itemized ps =
+    rw (
+      flat-single ps,
+      map-flat descriptorWords (λ p. p .descriptors) ps,
+      map-flat unknown2Words (λ p. p .unknown2) ps,
+      owned-map definitionWords definitionsIn ps,
+      owned-map eventWords eventsIn ps,
+      owned-flat mapsIn 0 ps,
+      ← all-entries ps,
+      map-flat mapEntryWords (λ m. m .entries) (flat (of-tables mapsIn) ps),
+      owned-map templateWords templatesIn ps,
+    )
+
+-- What gives a provider's words and then those of the rest, from the walk behind it, gives the words that the walk stores.
+parts-by : (l : ℕ) (words : Walk → List Provider → List ℕ) → ((w : Walk) → words w [] ≡ [])
+    → ((w : Walk) (p : Provider) (ps : List Provider) → words w (p ∷ ps) ≡ part l w p ++ words (passed l w p) ps) → (w : Walk) (ps : List Provider) → words w ps ≡ parts l w ps
+unfolding parts
+parts-by l words none more w [] = none w
+parts-by l words none more w (p ∷ ps) = more w p ps ∙ ap (λ (r : List ℕ). part l w p ++ r) (parts-by l words none more (passed l w p) ps)
+
+-- words that do not go by what was before
+plain-tables : {B : Type 0} (l : ℕ) (words : B → List ℕ) (items : Rows → List B) → ((w : Walk) (t : Table) → flat words (items (t .rows)) ≡ tablePart l w t)
+    → (w : Walk) (ts : List Table) → flat words (flat (λ t. items (t .rows)) ts) ≡ tableParts l w ts
+unfolding flat tableParts
+plain-tables l words items h w [] = refl
+plain-tables l words items h w (t ∷ ts) = flat-append words (items (t .rows)) _ ∙ rw (h w t, plain-tables l words items h (walked l w t) ts)
+
+plain-parts : {B : Type 0} (l : ℕ) (words : B → List ℕ) (items : Provider → List B) → ((w : Walk) (p : Provider) → flat words (items p) ≡ part l w p)
+    → (w : Walk) (ps : List Provider) → flat (λ e. e) (map words (flat items ps)) ≡ parts l w ps
+unfolding flat
+plain-parts l words items h w ps =
+    flat-map (λ e. e) words (flat items ps)
+    ∙ parts-by l (λ w ps. flat words (flat items ps)) (λ w. refl) (λ w p ps. flat-append words (items p) (flat items ps) ∙ rw (h w p)) w ps
+
+table-parts : {B : Type 0} (l : ℕ) (words : B → List ℕ) (items : Rows → List B) → ((w : Walk) (t : Table) → flat words (items (t .rows)) ≡ tablePart l w t)
+    → ((w : Walk) (p : Provider) → tableParts l w (kept (p .elements)) ≡ part l w p) → (w : Walk) (ps : List Provider)
+    → flat (λ e. e) (map words (flat (of-tables items) ps)) ≡ parts l w ps
+table-parts l words items h g = plain-parts l words (of-tables items) (λ w p. plain-tables l words items h w (kept (p .elements)) ∙ g w p)
+
+-- list 4: a table's first entry goes by what the walk has written
+abbrev tablesFrom : Walk → List Owned → List ℕ
+tablesFrom w os = flat (λ e. e) (tableEntries (w .written) os)
+
+tables-then : (w : Walk) (ts : List Table) (os : List Owned) → tablesFrom w (owned (w .number) ts ++ os) ≡ tableParts 4 w ts ++ tablesFrom (walkedAll 4 w ts) os
+unfolding flat tableEntries tableParts tablePart walkedAll walked
+tables-then w [] os = refl
+tables-then w (t ∷ ts) os = ap (λ (r : List ℕ). tablePart 4 w t ++ r) (tables-then (walked 4 w t) ts os)
+
+tables-parts : (w : Walk) (ps : List Provider) → tablesFrom w (ownedTables (w .number) ps) ≡ parts 4 w ps
+unfolding flat ownedTables tableEntries part passed
+tables-parts = parts-by 4 (λ w ps. tablesFrom w (ownedTables (w .number) ps)) (λ w. refl) more
+  where
+    more : (w : Walk) (p : Provider) (ps : List Provider) → tablesFrom w (ownedTables (w .number) (p ∷ ps)) ≡ part 4 w p ++ tablesFrom (passed 4 w p) (ownedTables (passed 4 w p .number) ps)
+    more w p ps =
+        let ts = kept (p .elements) in
+        let e : walkedAll 4 w ts .number + 1 ≡ suc (w .number) = ap (λ (v : Walk). v .number + 1) (walkedAll-ahead 4 w ts) ∙ add-one (w .number) in
+        rw e (tables-then w ts (ownedTables (suc (w .number)) ps))
+
+-- list 7: a map's first entry goes by the entries that the walk has passed
+abbrev mapsFrom : ℕ → List Mapped → List ℕ
+mapsFrom n ms = flat (λ e. e) (mapList n ms)
+
+mapList-append : (n : ℕ) (ms ns : List Mapped) → mapList n (ms ++ ns) ≡ mapList n ms ++ mapList (n + entryCount ms) ns
+unfolding mapList entryCount
+mapList-append n [] ns = simp add-zero
+mapList-append n (m ∷ ms) ns = rw (mapList-append (n + length (m .entries)) ms ns, add-assoc)
+
+maps-then : (w : Walk) (ts : List Table) (ms : List Mapped)
+    → mapsFrom (w .entries) (flat (λ t. mapsIn (t .rows)) ts ++ ms) ≡ tableParts 7 w ts ++ mapsFrom (walkedAll 7 w ts .entries) ms
+unfolding flat tableParts tablePart walkedAll walked
+maps-then w [] ms = refl
+maps-then w (t ∷ ts) ms =
+    let rest = flat (λ (u : Table). mapsIn (u .rows)) ts in
+    ap (mapsFrom (w .entries)) (append-assoc (mapsIn (t .rows)) rest ms)
+    ∙ ap (flat (λ e. e)) (mapList-append (w .entries) (mapsIn (t .rows)) (rest ++ ms))
+    ∙ flat-append (λ e. e) (mapList (w .entries) (mapsIn (t .rows))) _
+    ∙ ap (λ (r : List ℕ). tablePart 7 w t ++ r) (maps-then (walked 7 w t) ts ms)
+    ∙ sym (append-assoc (tablePart 7 w t) _ _)
+
+maps-parts : (w : Walk) (ps : List Provider) → mapsFrom (w .entries) (flat (of-tables mapsIn) ps) ≡ parts 7 w ps
+unfolding flat part passed mapList
+maps-parts = parts-by 7 (λ w ps. mapsFrom (w .entries) (flat (of-tables mapsIn) ps)) (λ w. refl) (λ w p ps. maps-then w (kept (p .elements)) (flat (of-tables mapsIn) ps))
+
+-- list 10: an unknown element has its provider's number
+unknown-parts : (w : Walk) (ps : List Provider) → flat (λ e. e) (ownedUnknowns (w .number) ps) ≡ parts 10 w ps
+unfolding flat ownedUnknowns part passed
+unknown-parts = parts-by 10 (λ w ps. flat (λ e. e) (ownedUnknowns (w .number) ps)) (λ w. refl) more
+  where
+    more : (w : Walk) (p : Provider) (ps : List Provider)
+        → flat (λ e. e) (ownedUnknowns (w .number) (p ∷ ps)) ≡ part 10 w p ++ flat (λ e. e) (ownedUnknowns (passed 10 w p .number) ps)
+    more w p ps =
+        flat-append (λ e. e) (map (unknownWords (w .number)) (unknowns (p .elements))) _
+        ∙ rw (flat-map (λ e. e) (unknownWords (w .number)) (unknowns (p .elements)), add-one)
+
+-- what holds of each list's number
+up-to : (P : ℕ → Type 0) (k : ℕ) → ((l : ℕ) → 1 ≤ l → l ≤ k → P l) → P (k + 1) → (l : ℕ) → 1 ≤ l → l ≤ k + 1 → P l
+up-to P k f p l m n = go (eqb l (k + 1)) refl
+  where
+    go : (t : Bool) → eqb l (k + 1) ≡ t → P l
+    go true e = rw (eqb-true l (k + 1) e) p
+    go false e = f l m (omega (arith, eqb-false l (k + 1) e))
+
+pub each-of-ten : (P : ℕ → Type 0) → P 1 → P 2 → P 3 → P 4 → P 5 → P 6 → P 7 → P 8 → P 9 → P 10 → (l : ℕ) → 1 ≤ l → l ≤ 10 → P l
+each-of-ten P a b c d e f g h i j =
+    up-to P 9 (up-to P 8 (up-to P 7 (up-to P 6 (up-to P 5 (up-to P 4 (up-to P 3 (up-to P 2 (up-to P 1 (up-to P 0 (λ l m n. absurd (omega arith)) a) b) c) d) e) f) g) h) i) j
+
+pub listed : (l : ℕ) → 1 ≤ l → l ≤ 10 → (ps : List Provider) → flat (λ e. e) (getD (lists ps) (l - 1) []) ≡ parts l start ps
+unfolding flat part tablePart
+listed l m n ps =
+    rw (lists-itemized ps) (each-of-ten (λ l. flat (λ e. e) (getD (itemized ps) (l - 1) []) ≡ parts l start ps)
+    (plain-parts 1 providerWords (λ p. p ∷ []) (λ w p. refl) start ps)
+    (plain-parts 2 descriptorWords (λ p. p .descriptors) (λ w p. refl) start ps)
+    (plain-parts 3 unknown2Words (λ p. p .unknown2) (λ w p. refl) start ps)
+    (tables-parts start ps)
+    (table-parts 5 definitionWords definitionsIn (λ w t. refl) (λ w p. refl) start ps)
+    (table-parts 6 eventWords eventsIn (λ w t. refl) (λ w p. refl) start ps)
+    (maps-parts start ps)
+    (table-parts 8 mapEntryWords entriesIn (λ w t. flat-flat mapEntryWords (λ m. m .entries) (mapsIn (t .rows))) (λ w p. refl) start ps)
+    (table-parts 9 templateWords templatesIn (λ w t. refl) (λ w p. refl) start ps)
+    (unknown-parts start ps)
+    l m n)

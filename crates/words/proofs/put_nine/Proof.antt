@@ -1,0 +1,42 @@
+-- Twice four words and one are the nine.
+use Rattle.blob.specs.Laid.{laid-behind}
+use borrow.Author.Needs.{needs}
+use Rattle.words.proofs.put_nine.Statement.{statement}
+use Rattle.words.proofs.put_nine.Tie as tie
+
+put-four-requires : tie.Need-put-four-requires
+put-four-requires c κs = search needs
+
+add-put-four : tie.Need-add-put-four
+add-put-four c = search needs
+
+put-four-requires-2 : tie.Need-put-four-requires-2
+put-four-requires-2 c κs = search needs
+
+add-put-one : tie.Need-add-put-one
+add-put-one c = search needs
+
+put-one-requires : tie.Need-put-one-requires
+put-one-requires c κs = search needs
+
+same-length : tie.Need-same-length
+same-length c = search needs
+
+returns : tie.Need-returns
+returns c =
+    let p = c .before .before in
+    let o = p .before .before .before .before in
+    let n = o .before .before .before .before in
+    laid-behind _ _ _ _ _ _ (laid-behind _ _ _ _ _ _ (n .put-four .ensures) (o .put-four2 .ensures)) (p .put-one .ensures)
+
+pub put-nine-spec : {M : Type 1} → statement M
+put-nine-spec =
+    tie.close
+    (tie.spec
+    put-four-requires
+    add-put-four
+    put-four-requires-2
+    add-put-one
+    put-one-requires
+    same-length
+    returns)
