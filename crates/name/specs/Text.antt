@@ -1,5 +1,5 @@
 -- What one unit makes of the rest of a text, a law for each kind of unit.
-use Prim.Native.Nat.{ℕ, zero, suc, _+_, _-_, _≤_, _<_}
+use Prim.Native.Nat.{ℕ, zero, suc, _+_, _-_, _%_, _≤_, _<_}
 use mathlib.Core.Path.{_≡_, refl, ap, _∙_}
 use mathlib.Core.List.{List}
 use mathlib.Core.Bool.{Bool, true, false, _&&_}
@@ -17,13 +17,22 @@ use Rattle.format.specs.declared.Name.{Name}
 abbrev pub pairs : List ℕ → ℕ → ℕ → Bool
 pairs s at left = ltb (le 2 s at) 0xDC00 && (ltb 1 left && low (le 2 s (at + 2)))
 
+-- one less than a unit; for the zero unit, more than all others together
+unfoldable pub below : ℕ → ℕ
+below zero = 0xFFFFFFFF
+below (suc u) = u
+
+-- the sum of four units from a place on, each one less
+abbrev pub lows : List ℕ → ℕ → ℕ
+lows s at = ((below (le 2 s at) + below (le 2 s (at + 2))) + below (le 2 s (at + 4))) + below (le 2 s (at + 6))
+
 -- a unit within two bounds, below the first, and past the second
 module _ (a b u : ℕ) where
   pub between : a ≤ u → u < b → (leb a u && ltb u b) ≡ true
   between h g = rw (le-leb _ _ h, lt-ltb _ _ g)
 
-  pub below : u < a → (leb a u && ltb u b) ≡ false
-  below h = rw (lt-leb _ _ h)
+  pub under : u < a → (leb a u && ltb u b) ≡ false
+  under h = rw (lt-leb _ _ h)
 
   pub above : a ≤ b → b ≤ u → (leb a u && ltb u b) ≡ false
   above g h = let k : a ≤ u = omega arith in rw (le-leb _ _ k, le-ltb _ _ h)
@@ -46,18 +55,18 @@ module _ (f o : ℕ) (s : List ℕ) (left at k : ℕ) where
   text-zero h z = ap (λ n. run (text f o n at k false) s) (more h) ∙ rw (run-number, eq-eqb _ _ z)
 
   -- a unit that is not 0 and no surrogate
-  plain : (left' k' : ℕ) → left ≡ suc left' → k' ≡ k + 1 → 0 < le 2 s at → low (le 2 s at) ≡ false → high (le 2 s at) ≡ false
+  passed : (left' k' : ℕ) → left ≡ suc left' → k' ≡ k + 1 → 0 < le 2 s at → low (le 2 s at) ≡ false → high (le 2 s at) ≡ false
       → run (text f o left at k false) s ≡ run (text f o left' (at + 2) k' false) s
   unfolding text demand
-  plain left' k' e g z l h = rw (e, g, run-number, nonzero z, l, h)
+  passed left' k' e g z l h = rw (e, g, run-number, nonzero z, l, h)
 
   pub text-below : (left' k' : ℕ) → left ≡ suc left' → k' ≡ k + 1 → 0 < le 2 s at → le 2 s at < 0xD800
       → run (text f o left at k false) s ≡ run (text f o left' (at + 2) k' false) s
-  text-below left' k' e g z h = plain left' k' e g z (below 0xDC00 _ (le 2 s at) (omega arith)) (below _ _ _ h)
+  text-below left' k' e g z h = passed left' k' e g z (under 0xDC00 _ (le 2 s at) (omega arith)) (under _ _ _ h)
 
   pub text-above : (left' k' : ℕ) → left ≡ suc left' → k' ≡ k + 1 → 0xE000 ≤ le 2 s at
       → run (text f o left at k false) s ≡ run (text f o left' (at + 2) k' false) s
-  text-above left' k' e g h = plain left' k' e g (omega arith) (above 0xDC00 _ _ (omega arith) h) (above 0xD800 0xDC00 (le 2 s at) (omega arith) (omega arith))
+  text-above left' k' e g h = passed left' k' e g (omega arith) (above 0xDC00 _ _ (omega arith) h) (above 0xD800 0xDC00 (le 2 s at) (omega arith) (omega arith))
 
 -- what follows a surrogate: the text behind the pair, or the refusal
 unfoldable after : (f o : ℕ) → List ℕ → (left at k : ℕ) → Bool → Outcome Name
@@ -89,7 +98,7 @@ module _ (f o : ℕ) (s : List ℕ) where
           let l : suc left - 2 ≡ left - 1 = omega arith in
           let p : (at + 2) + 2 ≡ at + 4 = omega arith in
           let q : (k + 1) + 1 ≡ k + 2 = omega arith in
-          rw (run-number, nonzero {u = le 2 s at} (omega arith), below _ _ _ h, between _ _ _ d h, low-waits left (at + 2) (k + 1), l, p, q, leb·suc-suc 1 left)
+          rw (run-number, nonzero {u = le 2 s at} (omega arith), under _ _ _ h, between _ _ _ d h, low-waits left (at + 2) (k + 1), l, p, q, leb·suc-suc 1 left)
       go false e = rw (run-number, nonzero {u = le 2 s at} (omega arith), between _ _ _ (ltb-false _ _ e) g)
 
   module _ (left at k : ℕ) (h : 0 < left) (d : 0xD800 ≤ le 2 s at) (g : le 2 s at < 0xE000) where
@@ -109,3 +118,34 @@ pairs-two s at left p = ltb-true _ _ (second (ltb (le 2 s at) 0xDC00) _ _ p)
     second a true c p = refl
     second true false c p = p
     second false false c p = p
+
+-- how it is computed
+pub less : (u : ℕ) → u ≤ 0xFFFFFFFF → (u + 0xFFFFFFFF) % 0x100000000 ≡ below u
+unfolding below
+less zero h = omega arith
+less (suc u) h = omega arith
+
+-- two tests that both hold
+pub both : (a b : Bool) → (a && b) ≡ true → (a ≡ true) × (b ≡ true)
+both true b p = (refl, p)
+both false b p = (p, (cc))
+
+low-unit : (u : ℕ) → below u < 0xD7FF → (0 < u) × (u < 0xD800)
+unfolding below
+low-unit zero h = absurd (omega arith)
+low-unit (suc u) h = (omega arith, omega arith)
+
+module _ (f o : ℕ) (s : List ℕ) where
+  text-low : (left at k left' at' k' : ℕ) → left ≡ suc left' → at' ≡ at + 2 → k' ≡ k + 1 → below (le 2 s at) < 0xD7FF
+      → run (text f o left at k false) s ≡ run (text f o left' at' k' false) s
+  text-low left at k left' at' k' e a g h =
+      let u = low-unit _ h in
+      rw a (text-below f o s left at k left' k' e g (u .0) (u .1))
+
+  pub text-four : (left at k left' at' k' : ℕ) → left ≡ left' + 4 → at' ≡ at + 8 → k' ≡ k + 4 → lows s at < 0xD7FF
+      → run (text f o left at k false) s ≡ run (text f o left' at' k' false) s
+  text-four left at k left' at' k' e a g h =
+      text-low left at k (left' + 3) (at + 2) (k + 1) (omega arith) refl refl (omega arith)
+      ∙ text-low (left' + 3) (at + 2) (k + 1) (left' + 2) (at + 4) (k + 2) (omega arith) (omega arith) (omega arith) (omega arith)
+      ∙ text-low (left' + 2) (at + 4) (k + 2) (left' + 1) (at + 6) (k + 3) (omega arith) (omega arith) (omega arith) (omega arith)
+      ∙ text-low (left' + 1) (at + 6) (k + 3) left' at' k' (omega arith) (omega arith) (omega arith) (omega arith)

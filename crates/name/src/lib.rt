@@ -1,13 +1,14 @@
 // Sized names: the tests of the size word, then one pass over the text.
 ghost use mathlib.Core.Path.{_≡_};
-ghost use mathlib.Core.Bool.{false};
+ghost use mathlib.Core.Bool.{false, _&&_};
 ghost use Prim.Native.Nat.{_+_, _*_, _≤_};
+ghost use lib.Dec.{leb, ltb};
 ghost use lib.ListN.{length};
 ghost use Rattle.blob.specs.Le.{le};
 ghost use Rattle.blob.specs.Reading.{run};
 ghost use Rattle.format.specs.Name.{text, nameAt, nameRead};
 ghost use Rattle.format.specs.Name as spec;
-ghost use Rattle.name.specs.Text.{pairs};
+ghost use Rattle.name.specs.Text.{pairs, below, lows};
 use format::Name;
 use format::NameRead;
 
@@ -29,8 +30,30 @@ fn paired(b: &[u8], at: usize, left: u32, unit: u32) -> bool
     next < 0xE000
 }
 
-// The text of n units behind the size word of a name. An ordinary unit takes two comparisons; a high surrogate takes the unit behind
-// it along, so that none waits from one turn to the next.
+// One less than a unit. The zero unit gives more than all others together.
+fn less(unit: u32) -> u64
+    ensures { λ r. ⌜ (r ≡ below unit) × (r ≤ 4294967295) ⌝ }
+{
+    ((unit as u64) + 0xFFFFFFFF) % 0x100000000
+}
+
+// Whether four units are left whose sum is so low that none of them is zero or a surrogate: one comparison for all four.
+fn four(b: &[u8], at: usize, left: u32) -> bool
+    requires { ⌜ at + 2 * left ≤ length (now b) ⌝ }
+    ensures { λ r. ⌜ r ≡ (leb 4 left && ltb (lows (now (b .entry)) at) 0xD7FF) ⌝ }
+{
+    if left < 4 {
+        return false;
+    }
+    let first = less(blob::half(b, at));
+    let second = less(blob::half(b, at + 2));
+    let third = less(blob::half(b, at + 4));
+    let fourth = less(blob::half(b, at + 6));
+    first + second + third + fourth < 0xD7FF
+}
+
+// The text of n units behind the size word of a name. First go low units, four at a time, then whatever is left, one at a time: an
+// ordinary unit takes two comparisons; a high surrogate takes the unit behind it along, so that none waits from one turn to the next.
 fn units(b: &[u8], field: u8, offset: u32, n: u32) -> NameRead
     requires { ⌜ (offset + 4 + 2 * n ≤ length (now b)) × (length (now b) ≤ 16777216) ⌝ }
     ensures { λ r. ⌜ r ≡ nameRead (run (text field offset n (offset + 4) 0 false) (now (b .entry))) ⌝ }
@@ -38,6 +61,10 @@ fn units(b: &[u8], field: u8, offset: u32, n: u32) -> NameRead
     let start = offset + 4;
     let mut at = start as usize;
     let mut left = n;
+    while four(b, at, left) {
+        at += 8;
+        left -= 4;
+    }
     while 0 < left {
         let unit = blob::half(b, at);
         if unit < 0xD800 {
