@@ -1,0 +1,13 @@
+-- By the test.
+use borrow.Author.Tests.{le-leb, lt-leb}
+use Rattle.counts.proofs.one_room.Statement.{statement}
+use Rattle.counts.proofs.one_room.Tie as tie
+
+returns : tie.Need-returns
+returns c = simp (le-leb _ _ (c .if1 .taken))
+
+returns-2 : tie.Need-returns-2
+returns-2 c = simp (lt-leb _ _ (c .if1 .left))
+
+pub one-room-spec : {M : Type 1} → statement M
+one-room-spec = tie.close (tie.spec returns returns-2)
