@@ -1,0 +1,98 @@
+-- The invariant: what is left decides. The kept tables of the kinds that are left, with what was counted before, need what all do.
+use Prim.Native.Nat.{_+_, _≤_}
+use mathlib.Core.Path.{_≡_, ap, sym, _∙_, subst}
+use mathlib.Core.Logic.{⊎-elim}
+use native.Mathlib.Omega.{arith}
+use borrow.Author.Needs.{needs}
+use Rattle.blob.specs.Reading.{run, values}
+use Rattle.format.specs.Provider.{elementsFrom}
+use Rattle.format.specs.Lists.{none-written}
+use Rattle.format.specs.Needs.{cappedWritten, small, tablesOf, writtenAll}
+use Rattle.table.specs.Headers.{header-bytes}
+use Rattle.element.specs.Kinds.{keptFrom, kept-all, kept-none, kept-here}
+use Rattle.element.specs.Sums.{capped-small, small-same, count-here, count-nowhere}
+use Rattle.element.proofs.count_tables.Statement.{statement}
+use Rattle.element.proofs.count_tables.Tie as tie
+
+abbrev Inv-loop : tie.InvT-loop
+Inv-loop b start n kind₀ left₀ w₀ kind left w =
+    (1 ≤ kind)
+    × (kind + left ≡ 9)
+    × small w
+    × (cappedWritten (tablesOf (values (run (elementsFrom n start) b))) ≡ cappedWritten (writtenAll w (keptFrom (values (run (elementsFrom n start) b)) left kind)))
+
+abbrev μ-loop : tie.MeasureT-loop
+μ-loop b start n kind₀ left₀ w₀ kind left w = left
+
+loop-holds : tie.Need-loop-holds Inv-loop μ-loop
+loop-holds c =
+    (search needs, search needs, search needs, ap (λ ts. cappedWritten (writtenAll none-written ts)) (kept-all (values (run (elementsFrom _ _) _))))
+
+last-of-requires : tie.Need-last-of-requires Inv-loop μ-loop
+last-of-requires c κs = search needs
+
+cast-word : tie.Need-cast-word Inv-loop μ-loop
+cast-word c = search needs
+
+add-word : tie.Need-add-word Inv-loop μ-loop
+add-word c = search needs
+
+word-requires : tie.Need-word-requires Inv-loop μ-loop
+word-requires c κs =
+    let l = c .before in
+    let t = kept-here _ _ _ _ (l .before .before .before .before .pre .1) _ (l .last-of .ensures) (c .if1 .taken) in
+    let h = header-bytes _ (t .3 .known .0) (t .3 .known .1) in
+    let f = t .3 .fits in
+    omega (arith, t .2)
+
+wrote-requires : tie.Need-wrote-requires Inv-loop μ-loop
+wrote-requires c κs = c .before .before .before .before .loop .inv .2
+
+add-kind : tie.Need-add-kind Inv-loop μ-loop
+add-kind c = search needs
+
+sub-left : tie.Need-sub-left Inv-loop μ-loop
+sub-left c = search needs
+
+loop-less : tie.Need-loop-less Inv-loop μ-loop
+loop-less c = search needs
+
+loop-again : tie.Need-loop-again Inv-loop μ-loop
+loop-again c =
+    let l = c .before in
+    let m = l .before in
+    let inv = m .before .loop .inv in
+    let pre = m .before .before .before .pre in
+    let more = m .loop-test .taken in (
+      omega arith,
+      omega arith,
+      ⊎-elim (λ w. subst small (sym (w .3 ∙ w .2 .ensures)) (capped-small _)) (λ w. subst small (sym (w .1)) (inv .2)) (c .if1 .came),
+      inv .3
+          ∙ ⊎-elim (λ w. count-here _ _ _ _ (pre .1) _ (l .last-of .ensures) _ _ more (w .0 .taken) _ (w .1 .ensures) _ (w .3 ∙ w .2 .ensures))
+          (λ w. count-nowhere _ _ _ _ (pre .1) _ (l .last-of .ensures) _ _ more (omega arith) (w .0 .left) _ (w .1))
+          (c .if1 .came),
+    )
+
+returns : tie.Need-returns Inv-loop μ-loop
+unfolding writtenAll
+returns c =
+    let inv = c .before .loop .inv in
+    sym (inv .3 ∙ ap (λ ts. cappedWritten (writtenAll (c .before .loop .w) ts)) (kept-none _ _ _ (c .loop-test .left)) ∙ small-same _ (inv .2))
+
+pub count-tables-spec : {M : Type 1} → statement M
+count-tables-spec =
+    tie.close
+    (tie.spec
+    Inv-loop
+    μ-loop
+    loop-holds
+    last-of-requires
+    cast-word
+    add-word
+    word-requires
+    wrote-requires
+    add-kind
+    sub-left
+    loop-less
+    loop-again
+    returns)

@@ -1,0 +1,144 @@
+-- What is counted of a provider's elements: those of no known kind, and the map entries of the last MAPS.
+use Prim.Native.Nat.{ℕ, _+_, _-_, _≤_, _<_}
+use mathlib.Core.Path.{_≡_, refl, ap, ap₂, sym, _∙_}
+use mathlib.Core.Bool.{Bool, true, false}
+use mathlib.Core.List.{List, [], _∷_, _++_}
+use native.Mathlib.Omega.{arith}
+use lib.ListN.{length}
+use lib.Dec.{eqb}
+use borrow.Author.Tests.{eqb-true, eqb-false}
+use Rattle.blob.specs.Le.{le}
+use Rattle.blob.specs.Laid.{flat}
+use Rattle.blob.specs.declared.Refusal.{Refusal}
+use Rattle.blob.specs.declared.Verdict.the-variants as verdicts
+use Rattle.blob.specs.Reading.{Outcome, done, refused, choose, run, many, answer, verdict, values}
+use Rattle.format.specs.Table.{CHAN, EVNT, KEYW, LEVL, MAPS, OPCO, TASK, TTBL, kindOf}
+use Rattle.format.specs.Definition.{step}
+use Rattle.format.specs.Provider.{Table, Element, table, unknown, descriptorAt, elementOf, elementAt, elementsFrom}
+use Rattle.format.specs.Lists.{lastOf, or-else, kept, unknowns, mapsIn}
+use Rattle.format.specs.Needs.{capped, entryCount, entriesAll, entriesOf, elementRead, elementsRead}
+use Rattle.format.specs.declared.Descriptor.{Descriptor}
+use Rattle.format.specs.declared.EntriesRead.the-variants as entries
+use Rattle.format.specs.declared.ElementsRead.{ElementsRead}
+use Rattle.format.specs.declared.ElementsRead.the-variants as elements
+use Rattle.element.specs.Tables.{kind-most, is-unknown, is-table, kept-one}
+use Rattle.element.specs.Elements.{from-none, from-stop, from-told, lastOr, last-here, last-other}
+
+-- the map entries of a table, as far as they are counted
+abbrev pub held : Table → ℕ
+held t = capped (entryCount (mapsIn (t .rows)))
+
+-- what the code answers once so many elements of no known kind were counted, and so many entries of the last MAPS
+abbrev pub readFrom : ℕ → ℕ → Outcome (List Element) → ElementsRead
+readFrom u n o = answer (λ es. elements.Fine (u + length (unknowns es)) (lastOr held n (lastOf MAPS es))) elements.Refused o
+
+held-last : (k : ℕ) (es : List Element) → capped (entriesAll 0 (lastOf k es)) ≡ lastOr held 0 (lastOf k es)
+unfolding lastOf entriesAll
+held-last k [] = refl
+held-last k (unknown u ∷ es) = held-last k es
+held-last k (table t ∷ es) = go (lastOf k es) (eqb (t .kind) k) (held-last k es)
+  where
+    go : (l : List Table) (b : Bool) → capped (entriesAll 0 l) ≡ lastOr held 0 l
+        → capped (entriesAll 0 (or-else l (choose b (t ∷ []) []))) ≡ lastOr held 0 (or-else l (choose b (t ∷ []) []))
+    go [] true ih = omega arith
+    go [] false ih = refl
+    go (y ∷ ys) b ih = ih
+
+pub read-all : (o : Outcome (List Element)) → elementsRead o ≡ readFrom 0 0 o
+read-all (done es) = let u : length (unknowns es) ≡ 0 + length (unknowns es) = omega arith in rw (held-last MAPS es, ← u)
+read-all (refused r) = refl
+
+pub read-none : (s : List ℕ) (left at u n : ℕ) → left ≤ 0 → readFrom u n (run (elementsFrom left at) s) ≡ elements.Fine u n
+unfolding unknowns lastOf
+read-none s left at u n h = ap (readFrom u n) (from-none s left at h) ∙ (let e : u + 0 ≡ u = omega arith in rw e)
+
+-- what the answer for an element tells of its reading
+is-fine : (o : Outcome Element) (x : ℕ) → entries.Entries x ≡ elementRead o → (e : Element) × (o ≡ done e) × (x ≡ capped (entriesOf e))
+is-fine (done e) x h = (e, refl, cc)
+is-fine (refused r) x h = absurd (let z : _≡_ {A = ℕ} 0 1 = cc in omega arith)
+
+is-refused : (o : Outcome Element) (r : Refusal) → entries.Refused r ≡ elementRead o → o ≡ refused r
+is-refused (done e) r h = absurd (let z : _≡_ {A = ℕ} 0 1 = cc in omega arith)
+is-refused (refused q) r h = cc
+
+-- an element of no known kind comes before the others of none; another changes nothing
+module _ (s : List ℕ) (d : Descriptor) (e : Element) (i : run (elementAt d) s ≡ done e) (es : List Element) where
+  pub unknown-here : kindOf (d .signature) ≡ 0
+      → unknowns (e ∷ es) ≡ record { signature = le 4 s (d .offset); offset = d .offset; size = le 4 s (d .offset + 4) } ∷ unknowns es
+  unfolding elementAt unknowns
+  unknown-here q = rw (is-unknown s (d .offset) e (rw q at i) .0)
+
+  pub unknown-fits : kindOf (d .signature) ≡ 0 → d .offset + 8 ≤ length s
+  unfolding elementAt
+  unknown-fits q = is-unknown s (d .offset) e (rw q at i) .1
+
+  pub unknown-other : (kindOf (d .signature) ≡ 0 → ⊥) → unknowns (e ∷ es) ≡ unknowns es
+  unfolding elementAt unknowns
+  unknown-other q =
+      let one : 1 ≤ kindOf (d .signature) = omega arith in
+      rw (is-table s _ (d .offset) e one (kind-most (d .signature)) i .1)
+
+  -- the counts before an element are those behind it
+  counts : (u n x k : ℕ) → k ≡ kindOf (d .signature) → x ≡ capped (entriesOf e)
+      → elements.Fine (u + length (unknowns (e ∷ es))) (lastOr held n (lastOf MAPS (e ∷ es)))
+      ≡ elements.Fine ((u + choose (eqb k 0) 1 0) + length (unknowns es)) (lastOr held (choose (eqb k MAPS) x n) (lastOf MAPS es))
+  counts u n x k q p = ap₂ elements.Fine (first (eqb k 0) refl) (second (eqb k MAPS) refl)
+    where
+      first : (b : Bool) → eqb k 0 ≡ b → u + length (unknowns (e ∷ es)) ≡ (u + choose b 1 0) + length (unknowns es)
+      first true g = omega (arith, ap length (unknown-here (sym q ∙ eqb-true k 0 g)))
+      first false g = omega (arith, ap length (unknown-other (λ z. eqb-false k 0 g (q ∙ z))))
+
+      second : (b : Bool) → eqb k MAPS ≡ b → lastOr held n (lastOf MAPS (e ∷ es)) ≡ lastOr held (choose b x n) (lastOf MAPS es)
+      second true g = last-here held n MAPS s d e i (omega arith) (sym q ∙ eqb-true k MAPS g) x (λ t et o. sym (p ∙ ap (λ y. capped (entriesOf y)) et)) es
+      second false g = last-other held n MAPS s d e i (omega arith) (λ z. eqb-false k MAPS g (q ∙ z)) es
+
+module _ (s : List ℕ) (left at : ℕ) (h : 0 < left) (d : Descriptor) (found : run (descriptorAt at) s ≡ done d) (k : ℕ) (q : k ≡ kindOf (d .signature)) where
+  same-element : run (elementOf k (d .offset)) s ≡ run (elementAt d) s
+  unfolding elementAt
+  same-element = rw q
+
+  pub read-stop : (u n : ℕ) (r : Refusal) → entries.Refused r ≡ elementRead (run (elementOf k (d .offset)) s)
+      → verdict (run (many descriptorAt (step 8) left at) s) ≡ verdicts.Fine → readFrom u n (run (elementsFrom left at) s) ≡ elements.Refused r
+  read-stop u n r f v = ap (readFrom u n) (from-stop s left at h d found r (sym same-element ∙ is-refused _ r f) v)
+
+  pub read-more : (u n x u' n' : ℕ) → entries.Entries x ≡ elementRead (run (elementOf k (d .offset)) s)
+      → u' ≡ u + choose (eqb k 0) 1 0 → n' ≡ choose (eqb k MAPS) x n
+      → readFrom u n (run (elementsFrom left at) s) ≡ readFrom u' n' (run (elementsFrom (left - 1) (at + 8)) s)
+  read-more u n x u' n' f eu en =
+      let e = is-fine _ x f in
+      let i = sym same-element ∙ e .1 in
+      rw (eu, en) (from-told s left at h d found (readFrom u n) (readFrom (u + choose (eqb k 0) 1 0) (choose (eqb k MAPS) x n)) (e .0)
+      (λ es. counts s d (e .0) i es u n x k q (e .2)) (λ r. refl) i)
+
+-- Of the kept tables only the MAPS has map entries.
+entries-append : (n : ℕ) (xs ys : List Table) → entriesAll n (xs ++ ys) ≡ entriesAll (entriesAll n xs) ys
+unfolding entriesAll
+entries-append n [] ys = refl
+entries-append n (x ∷ xs) ys = entries-append _ xs ys
+
+module _ (s : List ℕ) (c at : ℕ) (v : verdict (run (elementsFrom c at) s) ≡ verdicts.Fine) where
+  abbrev es : List Element
+  es = values (run (elementsFrom c at) s)
+
+  entries-skip : (k : ℕ) → (k ≡ MAPS → ⊥) → (n : ℕ) (ys : List Table) → entriesAll n (lastOf k es ++ ys) ≡ entriesAll n ys
+  unfolding entriesAll entryCount
+  entries-skip k q n ys = go (lastOf k es) refl
+    where
+      go : (l : List Table) → lastOf k es ≡ l → entriesAll n (l ++ ys) ≡ entriesAll n ys
+      go [] e = refl
+      go (t ∷ ts) e =
+          let o = kept-one s c at k t ts v e in
+          let z : n + 0 ≡ n = omega arith in
+          rw (o .0, o .1 .told .no-maps q, z)
+
+  pub kept-entries : entriesAll 0 (kept es) ≡ entriesAll 0 (lastOf MAPS es)
+  unfolding flat entriesAll
+  kept-entries =
+      entries-skip CHAN (λ q. omega arith) 0 _
+      ∙ entries-skip EVNT (λ q. omega arith) 0 _
+      ∙ entries-skip KEYW (λ q. omega arith) 0 _
+      ∙ entries-skip LEVL (λ q. omega arith) 0 _
+      ∙ entries-append 0 (lastOf MAPS es) _
+      ∙ entries-skip OPCO (λ q. omega arith) _ _
+      ∙ entries-skip TASK (λ q. omega arith) _ _
+      ∙ entries-skip TTBL (λ q. omega arith) _ _

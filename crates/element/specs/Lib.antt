@@ -1,0 +1,6 @@
+pub mod Tables
+pub mod Elements
+pub mod Kinds
+pub mod Checked
+pub mod Counted
+pub mod Sums

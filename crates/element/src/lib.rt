@@ -1,0 +1,217 @@
+// A provider's elements: each checked by its kind, where the last table of a kind stands, and what the kept tables need.
+ghost use mathlib.Core.Path.{_≡_};
+ghost use Prim.Native.Nat.{_+_, _*_, _≤_, min};
+ghost use lib.ListN.{length};
+ghost use Rattle.blob.specs.Reading.{run, done, verdict, values, many};
+ghost use Rattle.format.specs.Definition.{step};
+ghost use Rattle.format.specs.Table.{kindOf, header-length};
+ghost use Rattle.format.specs.Provider.{descriptorAt, unknownAt, eventsAt, tableAt, elementOf, elementsFrom};
+ghost use Rattle.format.specs.Lists.{lastOf};
+ghost use Rattle.element.specs.Checked.{without-entries};
+ghost use Rattle.format.specs.Needs.{elementRead, elementsRead, tableRead, placeOf, cappedWritten, tablesOf};
+use blob::Verdict;
+use format::Descriptor;
+use format::ElementsRead;
+use format::EndRead;
+use format::EntriesRead;
+use format::Header;
+use format::HeaderRead;
+use format::Written;
+use format::field::PROVIDER_ELEMENT_OFFSET;
+use format::field::UNKNOWN_ELEMENT_END;
+use format::field::UNKNOWN_ELEMENT_HEADER;
+
+// Kinds, by their numbers.
+const EVNT: u32 = 2;
+
+const MAPS: u32 = 5;
+
+const TTBL: u32 = 8;
+
+// Where a provider keeps no table of a kind: no place of a blob.
+const NONE: u32 = 4294967295;
+
+// The kind that a signature names; 0 for none.
+pub fn kind_of(signature: u32) -> u32
+    ensures { λ r. ⌜ (r ≡ kindOf signature) × (r ≤ 8) ⌝ }
+{
+    match signature {
+        0x4E414843 => 1,
+        0x544E5645 => 2,
+        0x5759454B => 3,
+        0x4C56454C => 4,
+        0x5350414D => 5,
+        0x4F43504F => 6,
+        0x4B534154 => 7,
+        0x4C425454 => 8,
+        _ => 0,
+    }
+}
+
+// The end of so many bytes from a place on, as a 32-bit number.
+fn end_of(at: usize, size: u32) -> usize
+    requires { ⌜ at ≤ 16777216 ⌝ }
+    ensures { λ r. ⌜ r ≡ min (at + size) 4294967295 ⌝ }
+{
+    let end = at + size as usize;
+    if end < 4294967295 {
+        return end;
+    }
+    4294967295
+}
+
+// Whether an element of no known kind is fine. It has no map entries.
+fn check_unknown(b: &[u8], at: usize) -> EntriesRead
+    requires { ⌜ length (now b) ≤ 16777216 ⌝ }
+    ensures { λ r. ⌜ r ≡ elementRead (run (unknownAt at) (now (b .entry))) ⌝ }
+{
+    if b.len() < at {
+        return EntriesRead::Refused(bounds::offset_out(b, PROVIDER_ELEMENT_OFFSET, at));
+    }
+    if b.len() - at < 8 {
+        return EntriesRead::Refused(bounds::truncated(b, UNKNOWN_ELEMENT_HEADER, at, 8));
+    }
+    let end = end_of(at, blob::word(b, at + 4));
+    if b.len() < end {
+        return EntriesRead::Refused(bounds::offset_out(b, UNKNOWN_ELEMENT_END, end));
+    }
+    EntriesRead::Entries(0)
+}
+
+// What a verdict is where there are no map entries.
+fn no_entries(v: Verdict) -> EntriesRead
+    ensures { λ r. ⌜ r ≡ without-entries v ⌝ }
+{
+    match v {
+        Verdict::Refused(r) => EntriesRead::Refused(r),
+        Verdict::Fine => EntriesRead::Entries(0),
+    }
+}
+
+// Whether an EVNT is fine whose header has been read: its events are never refused.
+fn check_events(b: &[u8], at: usize, h: Header) -> EntriesRead
+    requires { ⌜ (at + 16 ≤ length (now b)) × (length (now b) ≤ 16777216) ⌝ }
+    ensures { λ r. ⌜ r ≡ tableRead (run (eventsAt at h) (now (b .entry))) ⌝ }
+{
+    match table::table_end(b, EVNT, at, h) {
+        EndRead::Refused(r) => EntriesRead::Refused(r),
+        EndRead::End(_) => EntriesRead::Entries(0),
+    }
+}
+
+// Whether the table of a kind is fine whose header has been read, and how many map entries it has.
+fn check_table(b: &[u8], kind: u32, at: usize, h: Header) -> EntriesRead
+    requires { ⌜ (1 ≤ kind) × (kind ≤ 8) × (at + header-length kind ≤ length (now b)) × (length (now b) ≤ 16777216) ⌝ }
+    ensures { λ r. ⌜ r ≡ tableRead (run (tableAt kind at h) (now (b .entry))) ⌝ }
+{
+    match kind {
+        EVNT => check_events(b, at, h),
+        MAPS => map::check(b, at, h),
+        TTBL => no_entries(template::check(b, at, h)),
+        _ => no_entries(definition::check_definitions(b, kind, at, h)),
+    }
+}
+
+// Whether the element of a kind at a place is fine, and how many map entries it has.
+pub fn check_element(b: &[u8], kind: u32, at: usize) -> EntriesRead
+    requires { ⌜ (kind ≤ 8) × (length (now b) ≤ 16777216) ⌝ }
+    ensures { λ r. ⌜ r ≡ elementRead (run (elementOf kind at) (now (b .entry))) ⌝ }
+{
+    if kind == 0 {
+        return check_unknown(b, at);
+    }
+    match table::header_at(b, kind, at) {
+        HeaderRead::Refused(r) => EntriesRead::Refused(r),
+        HeaderRead::Header(h) => check_table(b, kind, at, h),
+    }
+}
+
+// The descriptor at a place where it is known to be fine.
+pub fn descriptor_of(b: &[u8], at: usize) -> Descriptor
+    requires { ⌜ at + 8 ≤ length (now b) ⌝ }
+    requires { ⌜ verdict (run (descriptorAt at) (now b)) ≡ Verdict.Fine ⌝ }
+    ensures { λ r. ⌜ run (descriptorAt at) (now (b .entry)) ≡ done r ⌝ }
+{
+    let offset = blob::word(b, at);
+    Descriptor {
+        offset,
+        unknown: blob::word(b, at + 4),
+        signature: blob::word(b, offset as usize),
+    }
+}
+
+// Whether the elements of n descriptors, themselves fine, are fine, in descriptor order.
+pub fn check_elements(b: &[u8], start: usize, n: u32) -> ElementsRead
+    requires { ⌜ (start + 8 * n ≤ length (now b)) × (length (now b) ≤ 16777216) ⌝ }
+    requires { ⌜ verdict (run (many descriptorAt (step 8) n start) (now b)) ≡ Verdict.Fine ⌝ }
+    ensures { λ r. ⌜ r ≡ elementsRead (run (elementsFrom n start) (now (b .entry))) ⌝ }
+{
+    let mut at = start;
+    let mut left = n;
+    let mut unknown = 0;
+    let mut entries = 0;
+    while 0 < left {
+        let d = descriptor_of(b, at);
+        let kind = kind_of(d.signature);
+        match check_element(b, kind, d.offset as usize) {
+            EntriesRead::Refused(r) => return ElementsRead::Refused(r),
+            EntriesRead::Entries(e) => {
+                if kind == 0 {
+                    unknown += 1;
+                }
+                if kind == MAPS {
+                    entries = e;
+                }
+            }
+        }
+        at += 8;
+        left -= 1;
+    }
+    ElementsRead::Fine(unknown, entries)
+}
+
+// Where the table of a kind stands that is kept: the last one that n descriptors name.
+pub fn last_of(b: &[u8], start: usize, n: u32, kind: u32) -> u32
+    requires { ⌜ (start + 8 * n ≤ length (now b)) × (1 ≤ kind) ⌝ }
+    requires { ⌜ verdict (run (elementsFrom n start) (now b)) ≡ Verdict.Fine ⌝ }
+    ensures { λ r. ⌜ r ≡ placeOf (lastOf kind (values (run (elementsFrom n start) (now (b .entry))))) ⌝ }
+{
+    let mut at = start;
+    let mut left = n;
+    let mut place = NONE;
+    while 0 < left {
+        let d = descriptor_of(b, at);
+        if kind_of(d.signature) == kind {
+            place = d.offset;
+        }
+        at += 8;
+        left -= 1;
+    }
+    place
+}
+
+// How many tables are kept, and how many entries they have in the lists of their kinds.
+pub fn count_tables(b: &[u8], start: usize, n: u32) -> Written
+    requires { ⌜ (start + 8 * n ≤ length (now b)) × (length (now b) ≤ 16777216) ⌝ }
+    requires { ⌜ verdict (run (elementsFrom n start) (now b)) ≡ Verdict.Fine ⌝ }
+    ensures { λ r. ⌜ r ≡ cappedWritten (tablesOf (values (run (elementsFrom n start) (now (b .entry))))) ⌝ }
+{
+    let mut kind = 1;
+    let mut left: u32 = 8;
+    let mut w = Written {
+        tables: 0,
+        definitions: 0,
+        events: 0,
+        maps: 0,
+        templates: 0,
+    };
+    while 0 < left {
+        let place = last_of(b, start, n, kind);
+        if place != NONE {
+            w = counts::wrote(w, kind, blob::word(b, place as usize + 8));
+        }
+        kind += 1;
+        left -= 1;
+    }
+    w
+}

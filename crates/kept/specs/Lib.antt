@@ -1,0 +1,4 @@
+pub mod Rows
+pub mod Filled
+pub mod Kinds
+pub mod Unknown

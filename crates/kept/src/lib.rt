@@ -1,0 +1,332 @@
+// What lists 4 to 10 have of a provider's elements: of the tables that are kept, by kind, and of those of no known kind.
+ghost use mathlib.Core.Path.{_≡_};
+ghost use mathlib.Core.Bool.{true};
+ghost use Prim.Native.Nat.{_+_, _*_, _≤_};
+ghost use lib.Dec.{eqb};
+ghost use lib.ListN.{length};
+ghost use Rattle.blob.specs.Le.{le};
+ghost use Rattle.blob.specs.Reading.{run, verdict, values, choose};
+ghost use Rattle.blob.specs.Laid.{laid, flat};
+ghost use Rattle.format.specs.Table.{header-length, kindOf};
+ghost use Rattle.format.specs.Provider.{tableAt, elementsFrom};
+ghost use Rattle.format.specs.Lists.{lastOf, kept, unknowns, unknownWords};
+ghost use Rattle.format.specs.Parts as parts;
+ghost use Rattle.kept.specs.Unknown.{wordsOf};
+ghost use Rattle.kept.specs.Rows.{holdsDefinitions, hasEntries, firstOf, trailingOf, partBy, walkedBy};
+use blob::Verdict;
+use format::Descriptor;
+use format::EndRead;
+use format::Header;
+use format::Walk;
+use format::Written;
+
+// Kinds, by their numbers.
+const EVNT: u32 = 2;
+
+const MAPS: u32 = 5;
+
+const TTBL: u32 = 8;
+
+// Where a provider keeps no table of a kind: no place of a blob.
+const NONE: u32 = 4294967295;
+
+// Whether tables of a kind have definitions.
+fn holds_definitions(kind: u32) -> bool
+    ensures { λ r. ⌜ r ≡ holdsDefinitions kind ⌝ }
+{
+    match kind {
+        EVNT => false,
+        MAPS => false,
+        TTBL => false,
+        _ => true,
+    }
+}
+
+// Whether tables of a kind have entries in a list, 4 to 9.
+fn has_entries(list: u32, kind: u32) -> bool
+    ensures { λ r. ⌜ r ≡ hasEntries list kind ⌝ }
+{
+    match list {
+        4 => true,
+        5 => holds_definitions(kind),
+        6 => kind == EVNT,
+        7 => kind == MAPS,
+        8 => kind == MAPS,
+        _ => kind == TTBL,
+    }
+}
+
+// The number of the first entry that a table of a kind has in its list.
+fn first_of(w: Written, kind: u32) -> u32
+    ensures { λ r. ⌜ r ≡ firstOf w kind ⌝ }
+{
+    match kind {
+        EVNT => w.events,
+        MAPS => w.maps,
+        TTBL => w.templates,
+        _ => w.definitions,
+    }
+}
+
+// What an EVNT has beside its events: the extra word, and what trails them. Other tables have none of it.
+pub struct Trailing {
+    pub extra: u32,
+    pub start: u32,
+    pub length: u32,
+}
+
+// The trailing part of a table of a kind that is known to be fine.
+fn trailing_of(b: &[u8], kind: u32, at: usize, h: Header) -> Trailing
+    requires { ⌜ (1 ≤ kind) × (kind ≤ 8) × (at + header-length kind ≤ length (now b)) × (length (now b) ≤ 16777216) ⌝ }
+    requires { ⌜ verdict (run (tableAt kind at h) (now b)) ≡ Verdict.Fine ⌝ }
+    ensures { λ r. ⌜ r ≡ trailingOf (run (tableAt kind at h) (now (b .entry))) ⌝ }
+{
+    if kind != EVNT {
+        return Trailing {
+            extra: 0,
+            start: 0,
+            length: 0,
+        };
+    }
+    let start = at + 16 + 48 * (h.count as usize);
+    match table::table_end(b, EVNT, at, h) {
+        EndRead::Refused(_) => Trailing {
+            extra: 0,
+            start: 0,
+            length: 0,
+        },
+        EndRead::End(end) => Trailing {
+            extra: blob::word(b, at + 12),
+            start: start as u32,
+            length: (end - start) as u32,
+        },
+    }
+}
+
+// The walk, so many words further.
+fn moved(w: Walk, words: usize) -> Walk
+    requires { ⌜ w .to + words ≤ 9223372036854775807 ⌝ }
+    ensures { λ r. ⌜ r ≡ parts.moved w words ⌝ }
+{
+    let written = w.written;
+    Walk {
+        number: w.number,
+        written,
+        entries: w.entries,
+        to: w.to + words,
+    }
+}
+
+// Stores a table's words, list 4's.
+fn put_table(b: &[u8], kind: u32, at: usize, h: Header, w: Walk, area: &mut [u32]) -> Walk
+    requires { ⌜ (1 ≤ kind) × (kind ≤ 8) × (at + header-length kind ≤ length (now b)) × (length (now b) ≤ 16777216) ⌝ }
+    requires { ⌜ verdict (run (tableAt kind at h) (now b)) ≡ Verdict.Fine ⌝ }
+    requires { ⌜ parts.fits (walkedBy 4 w (run (tableAt kind at h) (now b))) (length (now area)) ⌝ }
+    ensures { λ r. ⌜ r ≡ walkedBy 4 w (run (tableAt kind at h) (now (b .entry))) ⌝ }
+    ensures { λ _. ⌜ now (area .exit) ≡ laid (now (area .entry)) (w .to) (partBy 4 w (run (tableAt kind at h) (now (b .entry)))) ⌝ }
+{
+    let t = trailing_of(b, kind, at, h);
+    let written = w.written;
+    let first = first_of(written, kind);
+    words::put_nine(
+        area,
+        w.to,
+        w.number,
+        kind,
+        at as u32,
+        h.size,
+        t.extra,
+        first,
+        h.count,
+        t.start,
+        t.length,
+    );
+    Walk {
+        number: w.number,
+        written: counts::wrote(written, kind, h.count),
+        entries: w.entries,
+        to: w.to + 9,
+    }
+}
+
+// Stores a table's definitions, list 5's.
+fn put_definitions(b: &[u8], kind: u32, at: usize, h: Header, w: Walk, area: &mut [u32]) -> Walk
+    requires { ⌜ (1 ≤ kind) × (kind ≤ 8) × (at + header-length kind ≤ length (now b)) × (length (now b) ≤ 16777216) ⌝ }
+    requires { ⌜ (holdsDefinitions kind ≡ true) × (verdict (run (tableAt kind at h) (now b)) ≡ Verdict.Fine) ⌝ }
+    requires { ⌜ parts.fits (walkedBy 5 w (run (tableAt kind at h) (now b))) (length (now area)) ⌝ }
+    ensures { λ r. ⌜ r ≡ walkedBy 5 w (run (tableAt kind at h) (now (b .entry))) ⌝ }
+    ensures { λ _. ⌜ now (area .exit) ≡ laid (now (area .entry)) (w .to) (partBy 5 w (run (tableAt kind at h) (now (b .entry)))) ⌝ }
+{
+    let to = w.to;
+    definition::fill_definitions(b, kind, at, h, &mut area[to..]);
+    moved(w, 12 * (h.count as usize))
+}
+
+// Stores an EVNT's events, list 6's.
+fn put_events(b: &[u8], at: usize, h: Header, w: Walk, area: &mut [u32]) -> Walk
+    requires { ⌜ verdict (run (tableAt 2 at h) (now b)) ≡ Verdict.Fine ⌝ }
+    requires { ⌜ parts.fits (walkedBy 6 w (run (tableAt 2 at h) (now b))) (length (now area)) ⌝ }
+    ensures { λ r. ⌜ r ≡ walkedBy 6 w (run (tableAt 2 at h) (now (b .entry))) ⌝ }
+    ensures { λ _. ⌜ now (area .exit) ≡ laid (now (area .entry)) (w .to) (partBy 6 w (run (tableAt 2 at h) (now (b .entry)))) ⌝ }
+{
+    let to = w.to;
+    event::fill_events(b, at + 16, h.count, &mut area[to..]);
+    moved(w, 16 * (h.count as usize))
+}
+
+// Stores the maps of a MAPS, list 7's.
+fn put_maps(b: &[u8], at: usize, h: Header, w: Walk, area: &mut [u32]) -> Walk
+    requires { ⌜ (at + 16 ≤ length (now b)) × (length (now b) ≤ 16777216) ⌝ }
+    requires { ⌜ verdict (run (tableAt 5 at h) (now b)) ≡ Verdict.Fine ⌝ }
+    requires { ⌜ parts.fits (walkedBy 7 w (run (tableAt 5 at h) (now b))) (length (now area)) ⌝ }
+    ensures { λ r. ⌜ r ≡ walkedBy 7 w (run (tableAt 5 at h) (now (b .entry))) ⌝ }
+    ensures { λ _. ⌜ now (area .exit) ≡ laid (now (area .entry)) (w .to) (partBy 7 w (run (tableAt 5 at h) (now (b .entry)))) ⌝ }
+{
+    let to = w.to;
+    let written = w.written;
+    let entries = map::fill_maps(b, at, h, w.entries, &mut area[to..]);
+    Walk {
+        number: w.number,
+        written,
+        entries,
+        to: to + 11 * (h.count as usize),
+    }
+}
+
+// Stores the entries of its maps, list 8's.
+fn put_entries(b: &[u8], at: usize, h: Header, w: Walk, area: &mut [u32]) -> Walk
+    requires { ⌜ (at + 16 ≤ length (now b)) × (length (now b) ≤ 16777216) ⌝ }
+    requires { ⌜ verdict (run (tableAt 5 at h) (now b)) ≡ Verdict.Fine ⌝ }
+    requires { ⌜ parts.fits (walkedBy 8 w (run (tableAt 5 at h) (now b))) (length (now area)) ⌝ }
+    ensures { λ r. ⌜ r ≡ walkedBy 8 w (run (tableAt 5 at h) (now (b .entry))) ⌝ }
+    ensures { λ _. ⌜ now (area .exit) ≡ laid (now (area .entry)) (w .to) (partBy 8 w (run (tableAt 5 at h) (now (b .entry)))) ⌝ }
+{
+    let to = w.to;
+    let words = map::fill_entries(b, at, h, &mut area[to..]);
+    moved(w, words)
+}
+
+// Stores the templates of a TTBL, list 9's.
+fn put_templates(b: &[u8], at: usize, h: Header, w: Walk, area: &mut [u32]) -> Walk
+    requires { ⌜ (at + 12 ≤ length (now b)) × (length (now b) ≤ 16777216) ⌝ }
+    requires { ⌜ verdict (run (tableAt 8 at h) (now b)) ≡ Verdict.Fine ⌝ }
+    requires { ⌜ parts.fits (walkedBy 9 w (run (tableAt 8 at h) (now b))) (length (now area)) ⌝ }
+    ensures { λ r. ⌜ r ≡ walkedBy 9 w (run (tableAt 8 at h) (now (b .entry))) ⌝ }
+    ensures { λ _. ⌜ now (area .exit) ≡ laid (now (area .entry)) (w .to) (partBy 9 w (run (tableAt 8 at h) (now (b .entry)))) ⌝ }
+{
+    let to = w.to;
+    template::fill(b, at, h, &mut area[to..]);
+    moved(w, 12 * (h.count as usize))
+}
+
+// Stores what a list, 4 to 9, has of a table of a kind that has entries in it.
+fn put_rows(b: &[u8], list: u32, kind: u32, at: usize, h: Header, w: Walk, area: &mut [u32]) -> Walk
+    requires { ⌜ (1 ≤ kind) × (kind ≤ 8) × (at + header-length kind ≤ length (now b)) × (length (now b) ≤ 16777216) ⌝ }
+    requires { ⌜ verdict (run (tableAt kind at h) (now b)) ≡ Verdict.Fine ⌝ }
+    requires { ⌜ (4 ≤ list) × (list ≤ 9) × (hasEntries list kind ≡ true) ⌝ }
+    requires { ⌜ parts.fits (walkedBy list w (run (tableAt kind at h) (now b))) (length (now area)) ⌝ }
+    ensures { λ r. ⌜ r ≡ walkedBy list w (run (tableAt kind at h) (now (b .entry))) ⌝ }
+    ensures { λ _. ⌜ now (area .exit) ≡ laid (now (area .entry)) (w .to) (partBy list w (run (tableAt kind at h) (now (b .entry)))) ⌝ }
+{
+    match list {
+        4 => put_table(b, kind, at, h, w, area),
+        5 => put_definitions(b, kind, at, h, w, area),
+        6 => put_events(b, at, h, w, area),
+        7 => put_maps(b, at, h, w, area),
+        8 => put_entries(b, at, h, w, area),
+        _ => put_templates(b, at, h, w, area),
+    }
+}
+
+// The header of a table that is known to be fine.
+fn header_of(b: &[u8], at: usize) -> Header
+    requires { ⌜ at + 12 ≤ length (now b) ⌝ }
+    ensures { λ r. ⌜ r ≡ record { size = le 4 (now (b .entry)) (at + 4); count = le 4 (now (b .entry)) (at + 8) } ⌝ }
+{
+    Header {
+        size: blob::word(b, at + 4),
+        count: blob::word(b, at + 8),
+    }
+}
+
+// Stores what a list, 4 to 9, has of the table of a kind that is kept, if there is one.
+fn fill_kind(
+    b: &[u8],
+    start: usize,
+    n: u32,
+    list: u32,
+    kind: u32,
+    w: Walk,
+    area: &mut [u32],
+) -> Walk
+    requires { ⌜ (start + 8 * n ≤ length (now b)) × (length (now b) ≤ 16777216) ⌝ }
+    requires { ⌜ verdict (run (elementsFrom n start) (now b)) ≡ Verdict.Fine ⌝ }
+    requires { ⌜ (4 ≤ list) × (list ≤ 9) × (1 ≤ kind) × (kind ≤ 8) ⌝ }
+    requires { ⌜ parts.fits (parts.walkedAll list w (lastOf kind (values (run (elementsFrom n start) (now b))))) (length (now area)) ⌝ }
+    ensures { λ r. ⌜ r ≡ parts.walkedAll list w (lastOf kind (values (run (elementsFrom n start) (now (b .entry))))) ⌝ }
+    ensures { λ _. ⌜ now (area .exit) ≡ laid (now (area .entry)) (w .to) (parts.tableParts list w (lastOf kind (values (run (elementsFrom n start) (now (b .entry)))))) ⌝ }
+{
+    if !has_entries(list, kind) {
+        return w;
+    }
+    let place = element::last_of(b, start, n, kind);
+    if place == NONE {
+        return w;
+    }
+    let at = place as usize;
+    put_rows(b, list, kind, at, header_of(b, at), w, area)
+}
+
+// Stores what a list, 4 to 9, has of the tables that n descriptors' elements keep, by kind.
+pub fn fill_tables(b: &[u8], start: usize, n: u32, list: u32, from: Walk, area: &mut [u32]) -> Walk
+    requires { ⌜ (start + 8 * n ≤ length (now b)) × (length (now b) ≤ 16777216) ⌝ }
+    requires { ⌜ verdict (run (elementsFrom n start) (now b)) ≡ Verdict.Fine ⌝ }
+    requires { ⌜ (4 ≤ list) × (list ≤ 9) ⌝ }
+    requires { ⌜ parts.fits (parts.walkedAll list from (kept (values (run (elementsFrom n start) (now b))))) (length (now area)) ⌝ }
+    ensures { λ r. ⌜ r ≡ parts.walkedAll list from (kept (values (run (elementsFrom n start) (now (b .entry))))) ⌝ }
+    ensures { λ _. ⌜ now (area .exit) ≡ laid (now (area .entry)) (from .to) (parts.tableParts list from (kept (values (run (elementsFrom n start) (now (b .entry)))))) ⌝ }
+{
+    let mut kind = 1;
+    let mut left: u32 = 8;
+    let mut w = from;
+    while 0 < left {
+        w = fill_kind(b, start, n, list, kind, w, area);
+        kind += 1;
+        left -= 1;
+    }
+    w
+}
+
+// Stores the words of a descriptor's element if it is of no known kind; hands back where the next ones go.
+fn put_unknown(b: &[u8], d: Descriptor, number: u32, area: &mut [u32], to: usize) -> usize
+    requires { ⌜ (kindOf (d .signature) ≡ 0 → (d .offset + 8 ≤ length (now b)) × (to + 4 ≤ length (now area))) ⌝ }
+    ensures { λ r. ⌜ r ≡ choose (eqb (kindOf (d .signature)) 0) (to + 4) to ⌝ }
+    ensures { λ _. ⌜ now (area .exit) ≡ laid (now (area .entry)) to (wordsOf (now (b .entry)) number d) ⌝ }
+{
+    if element::kind_of(d.signature) == 0 {
+        let size = blob::word(b, d.offset as usize + 4);
+        words::put_four(area, to, number, d.signature, d.offset, size);
+        return to + 4;
+    }
+    to
+}
+
+// Stores the words of the elements of no known kind; hands back how many words they are.
+pub fn fill_unknown(b: &[u8], start: usize, n: u32, number: u32, area: &mut [u32]) -> usize
+    requires { ⌜ (start + 8 * n ≤ length (now b)) × (length (now b) ≤ 16777216) ⌝ }
+    requires { ⌜ verdict (run (elementsFrom n start) (now b)) ≡ Verdict.Fine ⌝ }
+    requires { ⌜ 4 * length (unknowns (values (run (elementsFrom n start) (now b)))) ≤ length (now area) ⌝ }
+    ensures { λ r. ⌜ r ≡ 4 * length (unknowns (values (run (elementsFrom n start) (now (b .entry))))) ⌝ }
+    ensures { λ _. ⌜ now (area .exit) ≡ laid (now (area .entry)) 0 (flat (unknownWords number) (unknowns (values (run (elementsFrom n start) (now (b .entry)))))) ⌝ }
+{
+    let mut at = start;
+    let mut left = n;
+    let mut to = 0;
+    while 0 < left {
+        let d = element::descriptor_of(b, at);
+        to = put_unknown(b, d, number, area, to);
+        at += 8;
+        left -= 1;
+    }
+    to
+}
