@@ -1,1 +1,2 @@
 pub mod Wevt
+pub mod Parts

@@ -7,15 +7,23 @@ ghost use Rattle.blob.specs.Laid.{laid, flat};
 ghost use Rattle.format.specs.Definition.{step};
 ghost use Rattle.format.specs.Lists.{descriptorWords, unknown2Words};
 ghost use Rattle.format.specs.Provider as spec;
+ghost use Rattle.format.specs.Crim.{describedAt};
+ghost use Rattle.format.specs.Needs.{elementsRead, providerRead};
+ghost use Rattle.provider.specs.Parts.{neededFor};
 use blob::Verdict;
+use format::Counts;
 use format::Descriptor;
 use format::DescriptorRead;
+use format::ElementsRead;
+use format::NeedsRead;
 use format::Wevt;
 use format::WevtRead;
+use format::field::WEVT_DESCRIPTOR_ARRAY;
 use format::field::WEVT_ELEMENT_OFFSET;
 use format::field::WEVT_ELEMENT_SIGNATURE;
 use format::field::WEVT_HEADER;
 use format::field::WEVT_PROVIDER_OFFSET;
+use format::field::WEVT_UNKNOWN2_ARRAY;
 
 // `WEVT` as a little-endian number.
 const WEVT: u32 = 0x54564557;
@@ -126,5 +134,69 @@ pub fn fill_unknown2(b: &[u8], start: usize, n: u32, area: &mut [u32])
         at += 4;
         left -= 1;
         to += 1;
+    }
+}
+
+// What each list needs for a provider whose parts are fine.
+fn needs_of(b: &[u8], start: usize, w: Wevt, unknown: u32, entries: u32) -> Counts
+    requires { ⌜ (start + 8 * w .descriptors ≤ length (now b)) × (length (now b) ≤ 16777216) ⌝ }
+    requires { ⌜ ElementsRead.Fine unknown entries ≡ elementsRead (run (spec.elementsFrom (w .descriptors) start) (now b)) ⌝ }
+    ensures { λ r. ⌜ r ≡ neededFor w (values (run (spec.elementsFrom (w .descriptors) start) (now (b .entry)))) ⌝ }
+{
+    let written = element::count_tables(b, start, w.descriptors);
+    Counts {
+        providers: 1,
+        descriptors: bounds::sum(0, w.descriptors),
+        unknown2: bounds::sum(0, w.unknown2),
+        tables: written.tables,
+        definitions: written.definitions,
+        events: written.events,
+        maps: written.maps,
+        entries,
+        templates: written.templates,
+        unknown: bounds::sum(0, unknown),
+    }
+}
+
+// Whether the provider is fine whose descriptor in the block stands at a place, and what each list needs for it.
+pub fn check(b: &[u8], at: usize) -> NeedsRead
+    requires { ⌜ (at + 20 ≤ length (now b)) × (length (now b) ≤ 16777216) ⌝ }
+    ensures { λ r. ⌜ r ≡ providerRead (run (describedAt at) (now (b .entry))) ⌝ }
+{
+    let offset = blob::word(b, at + 16) as usize;
+    let w = match wevt_at(b, offset) {
+        WevtRead::Refused(r) => return NeedsRead::Refused(r),
+        WevtRead::Wevt(w) => w,
+    };
+    let start = offset + 20;
+    if let Verdict::Refused(r) = bounds::whole(
+        b,
+        WEVT_DESCRIPTOR_ARRAY,
+        start,
+        8 * (w.descriptors as usize),
+    ) {
+        return NeedsRead::Refused(r);
+    }
+    if let Verdict::Refused(r) = check_descriptors(b, start, w.descriptors) {
+        return NeedsRead::Refused(r);
+    }
+    let words = start + 8 * (w.descriptors as usize);
+    if let Verdict::Refused(r) = bounds::whole(
+        b,
+        WEVT_UNKNOWN2_ARRAY,
+        words,
+        4 * (w.unknown2 as usize),
+    ) {
+        return NeedsRead::Refused(r);
+    }
+    match element::check_elements(b, start, w.descriptors) {
+        ElementsRead::Refused(r) => NeedsRead::Refused(r),
+        ElementsRead::Fine(unknown, entries) => NeedsRead::Needs(needs_of(
+            b,
+            start,
+            w,
+            unknown,
+            entries,
+        )),
     }
 }
