@@ -1,0 +1,5 @@
+pub mod Read
+pub mod Areas
+pub mod Walked
+pub mod Stored
+pub mod Longer

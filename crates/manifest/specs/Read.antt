@@ -1,0 +1,137 @@
+-- A reading, way by way, as `read` goes.
+use Prim.Native.Nat.{ℕ, suc, _+_, _*_, _-_, _≤_, _<_}
+use mathlib.Core.Path.{_≡_, refl, ap, sym, _∙_}
+use mathlib.Core.Bool.{Bool, true, false, _&&_}
+use mathlib.Core.List.{List, [], _∷_, map}
+use native.Mathlib.Omega.{arith}
+use lib.ListN.{length, take}
+use lib.Dec.{leb, eqb}
+use borrow.Author.Tests.{le-leb, lt-leb, leb-true, leb-false}
+use Rattle.blob.specs.declared.Refusal.{Refusal}
+use Rattle.blob.specs.declared.Verdict.{Verdict}
+use Rattle.blob.specs.declared.Verdict.the-variants as verdicts
+use Rattle.blob.specs.Reading.{Reading, Outcome, done, refused, choose, run, many, then, values}
+use Rattle.blob.specs.Laws.{run-room, run-past}
+use Rattle.blob.specs.Asks.{Finds, finds-got, finds-room, finds-demand, finds-next}
+use Rattle.format.specs.Field.{CRIM-provider-descriptor-array}
+use Rattle.format.specs.Refuse.{truncated}
+use Rattle.format.specs.Definition.{step}
+use Rattle.format.specs.Provider.{Provider}
+use Rattle.format.specs.Crim.{Crim, header, crimRead, describedAt, providersOf, crim}
+use Rattle.format.specs.Lists.{Entry, lists}
+use Rattle.format.specs.Answer.{ten, own, too-small, moderate, lent-enough, with-room, reading}
+use Rattle.format.specs.Needs.{capped}
+use Rattle.format.specs.declared.CrimHeader.{CrimHeader}
+use Rattle.format.specs.declared.CrimRead.the-variants as headers
+use Rattle.format.specs.declared.Counts.{Counts}
+use Rattle.counts.specs.Short.{short}
+
+-- n providers, and what is read of them
+abbrev pub providers : ℕ → Reading (List Provider)
+providers n = many describedAt (step 20) n 16
+
+abbrev pub providersIn : ℕ → List ℕ → List Provider
+providersIn n s = values (run (providers n) s)
+
+-- each list has room for its entries
+abbrev pub roomy : Counts → List Provider → Type 0
+roomy c ps = with-room {A = ℕ} 1 (ten c) (lists ps) 0 ≡ done 0
+
+-- what is read of the block behind its header
+unfoldable pub blockReading : CrimHeader → List ℕ → Counts → Outcome Crim
+blockReading h s capacities = then (run (providersOf h) s) (λ ps. with-room 1 (ten capacities) (lists ps) (record { header = h; providers = ps }))
+
+module _ (bytes words : List ℕ) (capacities : Counts) where
+  pub too-long : 16777216 < length bytes → reading bytes words capacities ≡ refused (own 7)
+  unfolding reading
+  too-long h = rw (lt-leb _ _ h)
+
+  module _ (h : length bytes ≤ 16777216) where
+    pub unlent : lent-enough capacities words ≡ false → reading bytes words capacities ≡ refused (own 8)
+    unfolding reading
+    unlent e = rw (le-leb _ _ h, e)
+
+    module _ (e : lent-enough capacities words ≡ true) where
+      lent : reading bytes words capacities ≡ then (crim bytes) (λ c. with-room 1 (ten capacities) (lists (c .providers)) c)
+      unfolding reading
+      lent = rw (le-leb _ _ h, e)
+
+      pub no-header : (r : Refusal) → run header bytes ≡ refused r → reading bytes words capacities ≡ refused r
+      unfolding crim then
+      no-header r f = lent ∙ rw f
+
+      pub headed : (c : CrimHeader) → run header bytes ≡ done c → reading bytes words capacities ≡ blockReading c (take (c .size) bytes) capacities
+      unfolding crim then blockReading
+      headed c f = lent ∙ rw f (go (run (providersOf c) (take (c .size) bytes)))
+        where
+          go : (o : Outcome (List Provider))
+              → then (then o (λ ps. done (record { header = c; providers = ps }))) (λ (d : Crim). with-room 1 (ten capacities) (lists (d .providers)) d)
+              ≡ then o (λ ps. with-room 1 (ten capacities) (lists ps) (record { header = c; providers = ps }))
+          go (done ps) = refl
+          go (refused r) = refl
+
+-- what the answer for the header tells of its reading
+pub is-header : (o : Outcome CrimHeader) (h : CrimHeader) → headers.Header h ≡ crimRead o → o ≡ done h
+is-header (done c) h e = cc
+is-header (refused r) h e = absurd (let z : _≡_ {A = ℕ} 0 1 = cc in omega arith)
+
+pub no-header-read : (o : Outcome CrimHeader) (r : Refusal) → headers.Refused r ≡ crimRead o → o ≡ refused r
+no-header-read (done c) r e = absurd (let z : _≡_ {A = ℕ} 0 1 = cc in omega arith)
+no-header-read (refused q) r e = cc
+
+-- an accepted header's size
+pub record Sized (s : List ℕ) (h : CrimHeader) : Type 0 where
+  pub least : 16 ≤ h .size
+  pub lent : h .size ≤ length s
+
+header-sized : (s : List ℕ) → Finds header s (λ c ps. Sized s c)
+unfolding header
+header-sized s =
+    finds-room (λ _. finds-next 4 0 (λ found _. finds-demand _ _ (λ _.
+    finds-room (λ _. finds-next 4 4 (λ size _. finds-room (λ _. finds-next 2 8 (λ major _. finds-room (λ _. finds-next 2 10 (λ minor _.
+    finds-room (λ _. finds-next 4 12 (λ count _. finds-demand _ _ (λ l. finds-room (λ g.
+    finds-got (record { least = leb-true _ _ l; lent = g }))))))))))))))
+
+pub sized : (s : List ℕ) (h : CrimHeader) → run header s ≡ done h → Sized s h
+sized s h e = header-sized s .found h e
+
+module _ (h : CrimHeader) (s : List ℕ) (capacities : Counts) where
+  pub block-cut : length s < 16 + 20 * h .count → blockReading h s capacities ≡ refused (truncated CRIM-provider-descriptor-array 16 (20 * h .count) (length s))
+  unfolding blockReading providersOf then
+  block-cut g = rw (run-past _ _ _ _ g)
+
+  module _ (g : 16 + 20 * h .count ≤ length s) where
+    pub block-refused : (r : Refusal) → run (providers (h .count)) s ≡ refused r → blockReading h s capacities ≡ refused r
+    unfolding blockReading providersOf then
+    block-refused r e = rw (run-room _ _ _ _ g, e)
+
+    pub block-read : (ps : List Provider) → run (providers (h .count)) s ≡ done ps
+        → blockReading h s capacities ≡ with-room 1 (ten capacities) (lists ps) (record { header = h; providers = ps })
+    unfolding blockReading providersOf then
+    block-read ps e = rw (run-room _ _ _ _ g, e)
+
+-- what is accepted where each list has room
+abbrev pub by-verdict : {A : Type 0} → A → Verdict → Outcome A
+by-verdict a verdicts.Fine = done a
+by-verdict a (verdicts.Refused r) = refused r
+
+-- the lists' needs, as far as anyone asks, decide: no capacity is over 65,536
+pub room-decides : {A : Type 0} (n : ℕ) (cs : List ℕ) (ls : List (List Entry)) (a : A) → moderate cs ≡ true
+    → with-room n cs ls a ≡ by-verdict a (short n cs (map (λ l. capped (length l)) ls))
+unfolding with-room short moderate
+room-decides n [] ls a m = refl
+room-decides n (c ∷ cs) [] a m = refl
+room-decides {A} n (c ∷ cs) (l ∷ ls) a m = go (leb c 65536) refl m (room-decides (suc n) cs ls a)
+  where
+    go : (t : Bool) → leb c 65536 ≡ t → (t && moderate cs) ≡ true
+        → (moderate cs ≡ true → with-room (suc n) cs ls a ≡ by-verdict a (short (suc n) cs (map (λ l. capped (length l)) ls)))
+        → choose (leb (length l) c) (with-room (suc n) cs ls a) (refused (too-small n c))
+        ≡ by-verdict a (choose (leb (capped (length l)) c) (short (suc n) cs (map (λ l. capped (length l)) ls)) (verdicts.Refused (too-small n c)))
+    go true e m ih = step (leb (length l) c) refl
+      where
+        step : (t : Bool) → leb (length l) c ≡ t
+            → choose t (with-room (suc n) cs ls a) (refused (too-small n c))
+            ≡ by-verdict a (choose (leb (capped (length l)) c) (short (suc n) cs (map (λ l. capped (length l)) ls)) (verdicts.Refused (too-small n c)))
+        step true f = let g = leb-true (length l) c f in let i : capped (length l) ≤ c = omega arith in rw (le-leb _ _ i) (ih m)
+        step false f = let g = leb-false (length l) c f in let k = leb-true c 65536 e in let i : c < capped (length l) = omega arith in rw (lt-leb _ _ i)
+    go false e m ih = absurd (let z : _≡_ {A = ℕ} 0 1 = cc in omega arith)

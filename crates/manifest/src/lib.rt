@@ -1,0 +1,242 @@
+// The whole block: the CRIM walk over providers, what the lists need, the ten areas, and `read`.
+ghost use mathlib.Core.Path.{_≡_};
+ghost use mathlib.Core.Bool.{true};
+ghost use Prim.Native.Nat.{_+_, _*_, _-_, _≤_};
+ghost use lib.ListN.{length, getD};
+ghost use Rattle.blob.specs.Reading.{run, refused, verdict};
+ghost use Rattle.blob.specs.Laid.{laid};
+ghost use Rattle.format.specs.Answer as spec;
+ghost use Rattle.format.specs.Lists.{lists};
+ghost use Rattle.format.specs.Needs as need;
+ghost use Rattle.format.specs.Parts as parts;
+ghost use Rattle.manifest.specs.Read.{providers, providersIn, roomy, blockReading};
+use blob::Refusal;
+use blob::Verdict;
+use format::Answer;
+use format::Counts;
+use format::CrimHeader;
+use format::CrimRead;
+use format::NeedsRead;
+use format::Walk;
+use format::Written;
+use format::field::CRIM_PROVIDER_DESCRIPTOR_ARRAY;
+
+// Where the CRIM walk stands: the place of the next provider's descriptor, how many are left, and what those before it need.
+pub struct Position {
+    pub at: usize,
+    pub left: u32,
+    pub needs: Counts,
+}
+
+impl Position {
+    // Before the first of n providers.
+    pub fn first(n: u32) -> Position
+        ensures { λ r. ⌜ (r .at ≡ 16) × (r .left ≡ n) × (r .needs ≡ need.none) ⌝ }
+    {
+        Position {
+            at: 16,
+            left: n,
+            needs: counts::none(),
+        }
+    }
+
+    // Behind a provider that needs so much.
+    pub fn next(self, needs: Counts) -> Position
+        requires { ⌜ (self .at ≤ 16777216) × (1 ≤ self .left) × need.modest (self .needs) ⌝ }
+        ensures { λ r. ⌜ (r .at ≡ self .at + 20) × (r .left ≡ self .left - 1) × (r .needs ≡ need.plus (self .needs) needs) ⌝ }
+    {
+        let before = self.needs;
+        Position {
+            at: self.at + 20,
+            left: self.left - 1,
+            needs: counts::plus(before, needs),
+        }
+    }
+}
+
+// Whether n providers are fine, each finished before the next is read, and what each list needs for them.
+fn check(b: &[u8], n: u32) -> NeedsRead
+    requires { ⌜ (16 + 20 * n ≤ length (now b)) × (length (now b) ≤ 16777216) ⌝ }
+    ensures { λ r. ⌜ r ≡ need.providersRead (run (providers n) (now (b .entry))) ⌝ }
+{
+    let mut p = Position::first(n);
+    while 0 < p.left {
+        match provider::check(b, p.at) {
+            NeedsRead::Refused(r) => return NeedsRead::Refused(r),
+            NeedsRead::Needs(c) => p = p.next(c),
+        }
+    }
+    let needs = p.needs;
+    NeedsRead::Needs(needs)
+}
+
+// Before the first entry of a list.
+fn start() -> Walk
+    ensures { λ r. ⌜ r ≡ parts.start ⌝ }
+{
+    Walk {
+        number: 0,
+        written: Written {
+            tables: 0,
+            definitions: 0,
+            events: 0,
+            maps: 0,
+            templates: 0,
+        },
+        entries: 0,
+        to: 0,
+    }
+}
+
+// Stores what a list has of n providers that `check` found fine.
+fn fill(b: &[u8], n: u32, list: u32, area: &mut [u32])
+    requires { ⌜ (16 + 20 * n ≤ length (now b)) × (length (now b) ≤ 16777216) ⌝ }
+    requires { ⌜ verdict (run (providers n) (now b)) ≡ Verdict.Fine ⌝ }
+    requires { ⌜ (1 ≤ list) × (list ≤ 10) × parts.fits (parts.passedAll list parts.start (providersIn n (now b))) (length (now area)) ⌝ }
+    ensures { λ _. ⌜ now (area .exit) ≡ laid (now (area .entry)) 0 (parts.parts list parts.start (providersIn n (now (b .entry)))) ⌝ }
+{
+    let mut at = 16;
+    let mut left = n;
+    let mut w = start();
+    while 0 < left {
+        w = part::fill(b, at, list, w, area);
+        at += 20;
+        left -= 1;
+    }
+}
+
+// Stores a list in its area, a part of the lent words that starts in their middle; hands back where it ends.
+fn fill_area(
+    b: &[u8],
+    n: u32,
+    list: u32,
+    words: &mut [u32],
+    from: usize,
+    capacity: u32,
+    width: u32,
+) -> usize
+    requires { ⌜ (16 + 20 * n ≤ length (now b)) × (length (now b) ≤ 16777216) ⌝ }
+    requires { ⌜ verdict (run (providers n) (now b)) ≡ Verdict.Fine ⌝ }
+    requires { ⌜ (1 ≤ list) × (list ≤ 10) × (width ≤ 16) × (from + capacity * width ≤ length (now words)) ⌝ }
+    requires { ⌜ parts.fits (parts.passedAll list parts.start (providersIn n (now b))) (capacity * width) ⌝ }
+    ensures { λ r. ⌜ r ≡ from + capacity * width ⌝ }
+    ensures { λ _. ⌜ now (words .exit) ≡ laid (now (words .entry)) from (parts.parts list parts.start (providersIn n (now (b .entry)))) ⌝ }
+{
+    let to = from + counts::area(capacity, width);
+    fill(b, n, list, &mut words[from..to]);
+    to
+}
+
+// Stores the ten lists, each in its area.
+fn fill_areas(b: &[u8], n: u32, c: Counts, words: &mut [u32])
+    requires { ⌜ (16 + 20 * n ≤ length (now b)) × (length (now b) ≤ 16777216) ⌝ }
+    requires { ⌜ verdict (run (providers n) (now b)) ≡ Verdict.Fine ⌝ }
+    requires { ⌜ spec.lent-enough c (now words) ≡ true ⌝ }
+    requires { ⌜ roomy c (providersIn n (now b)) ⌝ }
+    ensures { λ _. ⌜ now (words .exit) ≡ spec.filled (now (words .entry)) 0 (spec.ten c) spec.widths (lists (providersIn n (now (b .entry)))) ⌝ }
+{
+    let to = fill_area(b, n, 1, words, 0, c.providers, 9);
+    let to = fill_area(b, n, 2, words, to, c.descriptors, 3);
+    let to = fill_area(b, n, 3, words, to, c.unknown2, 1);
+    let to = fill_area(b, n, 4, words, to, c.tables, 9);
+    let to = fill_area(b, n, 5, words, to, c.definitions, 12);
+    let to = fill_area(b, n, 6, words, to, c.events, 16);
+    let to = fill_area(b, n, 7, words, to, c.maps, 11);
+    let to = fill_area(b, n, 8, words, to, c.entries, 2);
+    let to = fill_area(b, n, 9, words, to, c.templates, 12);
+    let _ = fill_area(b, n, 10, words, to, c.unknown, 4);
+}
+
+// The answer of an accepted block that needs so much.
+fn accept(h: CrimHeader, needs: Counts) -> Answer
+    ensures { λ r. ⌜ r ≡ record { code = 0; field = 0; place = 0; first = h .size; second = h .major + 65536 * h .minor; counts = needs } ⌝ }
+{
+    Answer {
+        code: 0,
+        field: 0,
+        place: 0,
+        first: h.size as u64,
+        second: (h.major as u64) + 65536 * (h.minor as u64),
+        counts: needs,
+    }
+}
+
+// The answer that a refusal is.
+fn refuse(r: Refusal) -> Answer
+    ensures { λ a. ⌜ a ≡ spec.answer (refused r) ⌝ }
+{
+    Answer {
+        code: r.code,
+        field: r.field,
+        place: r.place,
+        first: r.first,
+        second: r.second,
+        counts: counts::none(),
+    }
+}
+
+// A refusal of the port's own.
+fn own(code: u8) -> Answer
+    ensures { λ a. ⌜ a ≡ spec.answer (refused (spec.own code)) ⌝ }
+{
+    refuse(Refusal {
+        code,
+        field: 0,
+        place: 0,
+        first: 0,
+        second: 0,
+    })
+}
+
+// Stores the lists of a block whose providers are fine, if each has room.
+fn store(b: &[u8], h: CrimHeader, needs: Counts, words: &mut [u32], capacities: Counts) -> Answer
+    requires { ⌜ (16 + 20 * h .count ≤ length (now b)) × (length (now b) ≤ 16777216) ⌝ }
+    requires { ⌜ verdict (run (providers (h .count)) (now b)) ≡ Verdict.Fine ⌝ }
+    requires { ⌜ (needs ≡ need.needsAll need.none (providersIn (h .count) (now b))) × (spec.lent-enough capacities (now words) ≡ true) ⌝ }
+    ensures { λ r. ⌜ r ≡ spec.answer (blockReading h (now (b .entry)) capacities) ⌝ }
+    ensures { λ _. ⌜ now (words .exit) ≡ spec.held (now (words .entry)) capacities (blockReading h (now (b .entry)) capacities) ⌝ }
+{
+    match counts::room(capacities, needs) {
+        Verdict::Refused(r) => refuse(r),
+        Verdict::Fine => {
+            fill_areas(b, h.count, capacities, words);
+            accept(h, needs)
+        }
+    }
+}
+
+// Reads the block behind its header.
+fn read_block(b: &[u8], h: CrimHeader, words: &mut [u32], capacities: Counts) -> Answer
+    requires { ⌜ (16 ≤ length (now b)) × (length (now b) ≤ 16777216) × (spec.lent-enough capacities (now words) ≡ true) ⌝ }
+    ensures { λ r. ⌜ r ≡ spec.answer (blockReading h (now (b .entry)) capacities) ⌝ }
+    ensures { λ _. ⌜ now (words .exit) ≡ spec.held (now (words .entry)) capacities (blockReading h (now (b .entry)) capacities) ⌝ }
+{
+    let bytes = 20 * (h.count as usize);
+    if b.len() - 16 < bytes {
+        return refuse(bounds::truncated(b, CRIM_PROVIDER_DESCRIPTOR_ARRAY, 16, bytes));
+    }
+    match check(b, h.count) {
+        NeedsRead::Refused(r) => refuse(r),
+        NeedsRead::Needs(needs) => store(b, h, needs, words, capacities),
+    }
+}
+
+// Reads the CRIM block in lent bytes into lent words, ten areas of as many entries as the capacities say.
+pub fn read(bytes: &[u8], words: &mut [u32], capacities: Counts) -> Answer
+    ensures { λ r. ⌜ r ≡ spec.answer (spec.reading (now (bytes .entry)) (now (words .entry)) capacities) ⌝ }
+    ensures { λ _. ⌜ now (words .exit) ≡ spec.held (now (words .entry)) capacities (spec.reading (now (bytes .entry)) (now (words .entry)) capacities) ⌝ }
+{
+    if 16777216 < bytes.len() {
+        return own(7);
+    }
+    if !counts::lent_enough(capacities, words.len()) {
+        return own(8);
+    }
+    match crim::header(bytes) {
+        CrimRead::Refused(r) => refuse(r),
+        CrimRead::Header(h) => {
+            let size = h.size as usize;
+            read_block(&bytes[..size], h, words, capacities)
+        }
+    }
+}
