@@ -1,0 +1,25 @@
+use borrow.Author.Needs.{needs}
+use Rattle.export.proofs.ducat_read.Statement.{statement}
+use Rattle.export.proofs.ducat_read.Tie as tie
+
+read-requires : tie.Need-read-requires
+read-requires c κs = search needs
+
+store-requires : tie.Need-store-requires
+store-requires c κs = search needs
+
+cast-result : tie.Need-cast-result
+cast-result c = search needs
+
+same-length : tie.Need-same-length
+same-length c = search needs
+
+same-length-2 : tie.Need-same-length-2
+same-length-2 c = search needs
+
+returns : tie.Need-returns
+returns c = (cc, (cc, cc))
+
+pub ducat-read-spec : {M : Type 1} → statement M
+ducat-read-spec =
+    tie.close (tie.spec read-requires store-requires cast-result same-length same-length-2 returns)
