@@ -1,5 +1,6 @@
 //! The field codes, read from docs/FIELDS.md so that there is one table of them.
 
+use std::collections::BTreeSet;
 use std::sync::LazyLock;
 
 pub struct Field {
@@ -20,6 +21,19 @@ static FIELDS: LazyLock<Vec<Field>> = LazyLock::new(|| {
 /// All rows of the table, in its order.
 pub fn all() -> &'static [Field] {
     &FIELDS
+}
+
+/// A code and a field code.
+pub type Pair = (u32, u32);
+
+/// The pairs that can come in an answer: those of the table, acceptance, and the wrong signature,
+/// which has no field.
+pub fn promised() -> BTreeSet<Pair> {
+    let mut pairs = BTreeSet::from([(0, 0), (2, 0)]);
+    for field in all() {
+        pairs.extend(field.codes.iter().map(|&code| (code, field.number)));
+    }
+    pairs
 }
 
 /// The number of the field with a text. A text that the table lacks is a fault

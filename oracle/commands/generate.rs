@@ -1,17 +1,18 @@
-//! generate SEED COUNT [--damaged PERCENT] [--from INDEX]: blobs to standard output.
+//! generate SEED COUNT [--damaged PERCENT] [--from INDEX] [--large]: blobs to standard output.
 
 use std::io::{self, BufWriter, Write};
 use std::process::ExitCode;
 
-use generator::Rng;
+use generator::{Rng, large};
 
-const USAGE: &str = "usage: generate SEED COUNT [--damaged PERCENT] [--from INDEX]";
+const USAGE: &str = "usage: generate SEED COUNT [--damaged PERCENT] [--from INDEX] [--large]";
 
 struct Arguments {
     seed: u64,
     count: u64,
     damaged: usize,
     from: u64,
+    large: bool,
 }
 
 fn main() -> ExitCode {
@@ -34,12 +35,13 @@ fn arguments(mut given: impl Iterator<Item = String>) -> Option<Arguments> {
         count: given.next()?.parse().ok()?,
         damaged: generator::DAMAGED,
         from: 0,
+        large: false,
     };
     while let Some(option) = given.next() {
-        let value = given.next()?;
         match option.as_str() {
-            "--damaged" => arguments.damaged = value.parse().ok()?,
-            "--from" => arguments.from = value.parse().ok()?,
+            "--damaged" => arguments.damaged = given.next()?.parse().ok()?,
+            "--from" => arguments.from = given.next()?.parse().ok()?,
+            "--large" => arguments.large = true,
             _ => return None,
         }
     }
@@ -50,7 +52,12 @@ fn run(arguments: &Arguments) -> io::Result<()> {
     let mut output = BufWriter::new(io::stdout().lock());
     for index in arguments.from..arguments.from.saturating_add(arguments.count) {
         let mut rng = Rng::new(arguments.seed, index);
-        frames::write(&mut output, &generator::blob(&mut rng, arguments.damaged))?;
+        let blob = if arguments.large {
+            large::blob(&mut rng)
+        } else {
+            generator::blob(&mut rng, arguments.damaged)
+        };
+        frames::write(&mut output, &blob)?;
     }
     output.flush()
 }

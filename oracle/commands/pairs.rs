@@ -1,13 +1,11 @@
 //! pairs COUNT SEED: which pairs of code and field the generator's blobs reach,
 //! held against the pairs that docs/FIELDS.md promises.
 
-use std::collections::{BTreeMap, BTreeSet};
+use std::collections::BTreeMap;
 use std::process::ExitCode;
 
-use answers::{answer, fields};
+use answers::{answer, fields, fields::Pair};
 use generator::Rng;
-
-type Pair = (u32, u32);
 
 fn main() -> ExitCode {
     let arguments: Vec<Option<u64>> = std::env::args().skip(1).map(|a| a.parse().ok()).collect();
@@ -33,7 +31,7 @@ fn main() -> ExitCode {
         println!("code {code} field {field}: {times}{}", text(field));
     }
 
-    let promised = promised();
+    let promised = fields::promised();
     let unreached: Vec<Pair> = promised
         .iter()
         .filter(|pair| !reached.contains_key(pair))
@@ -59,15 +57,6 @@ fn main() -> ExitCode {
     } else {
         ExitCode::FAILURE
     }
-}
-
-/// The pairs of the table, acceptance, and the wrong signature, which has no field.
-fn promised() -> BTreeSet<Pair> {
-    let mut pairs = BTreeSet::from([(0, 0), (2, 0)]);
-    for field in fields::all() {
-        pairs.extend(field.codes.iter().map(|&code| (code, field.number)));
-    }
-    pairs
 }
 
 /// The text of a field, for the reader of the list.

@@ -5,6 +5,8 @@ mod damage;
 mod draft;
 mod elements;
 mod faults;
+pub mod known;
+pub mod large;
 mod maps;
 mod names;
 mod rng;

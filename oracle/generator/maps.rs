@@ -62,6 +62,20 @@ fn tight(draft: &mut Draft, rng: &mut Rng, start: usize, count: usize) {
     }
 }
 
+/// A MAPS with one map, a VMAP with so many entries.
+pub fn one_of_many(draft: &mut Draft, rng: &mut Rng, entries: usize) -> usize {
+    let start = head(draft, rng, 1);
+    let map = draft.open(b"VMAP");
+    let name = draft.bytes.len();
+    draft.word(0);
+    names::refer(draft, rng, name);
+    draft.steer(entries as u32);
+    draft.random(rng, 8 * entries);
+    draft.end_exactly(map);
+    draft.end(rng, start);
+    start
+}
+
 /// No map is a VMAP, so the region may end anywhere: within the offsets, before
 /// a map, within its signature or behind it.
 fn loose(draft: &mut Draft, rng: &mut Rng, start: usize, count: usize) {

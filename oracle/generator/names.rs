@@ -21,6 +21,46 @@ pub fn write(draft: &mut Draft, rng: &mut Rng) -> u32 {
     at
 }
 
+/// Writes a good name of so many units, a zero unit excepted, and gives its offset.
+pub fn long(draft: &mut Draft, rng: &mut Rng, units: usize) -> u32 {
+    let mut text = Vec::with_capacity(units + 1);
+    while text.len() < units {
+        if text.len() + 2 <= units && rng.chance(5) {
+            text.extend([0xd83d, 0xde00 + rng.below(64) as u16]);
+        } else {
+            text.push(rng.between(0x20, 0x17f) as u16);
+        }
+    }
+    text.push(0);
+    let at = sized(draft, &text);
+    draft.names.push(at);
+    at
+}
+
+/// Writes a name that ends at a length of the draft, and gives its offset. At times its last unit
+/// is zero, and at times half of a pair.
+pub fn filling(draft: &mut Draft, rng: &mut Rng, length: usize) -> u32 {
+    if !(length - draft.bytes.len()).is_multiple_of(2) {
+        draft.bytes.push(0);
+    }
+    let at = draft.here();
+    draft.steer((length - at as usize) as u32);
+    draft.bytes.reserve(length - draft.bytes.len());
+    while draft.bytes.len() + 8 <= length {
+        // Four units, each under 0x8000 and none of them zero.
+        let units = rng.any() & 0x7fff_7fff_7fff_7fff | 0x0001_0001_0001_0001;
+        draft.put(&units.to_le_bytes());
+    }
+    while draft.bytes.len() < length {
+        draft.put(&[0x41, 0]);
+    }
+    if rng.chance(50) {
+        let last: u16 = rng.pick(&[0, 0, 0xd800, 0xdc00]);
+        draft.bytes[length - 2..].copy_from_slice(&last.to_le_bytes());
+    }
+    at
+}
+
 /// Puts a name's offset (absent, or of any name so far) in a word.
 pub fn refer(draft: &mut Draft, rng: &mut Rng, place: usize) {
     let name = if draft.names.is_empty() || rng.chance(25) {

@@ -38,7 +38,8 @@ pub fn draft(rng: &mut Rng, least: usize) -> Draft {
     draft
 }
 
-fn head(draft: &mut Draft, rng: &mut Rng, providers: usize) {
+/// The CRIM header and the provider descriptors, whose offsets are 0 so far.
+pub fn head(draft: &mut Draft, rng: &mut Rng, providers: usize) {
     draft.open(b"CRIM");
     draft.word(rng.word());
     draft.steer(providers as u32);

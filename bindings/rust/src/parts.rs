@@ -1,0 +1,113 @@
+//! What entries are made of: GUIDs, signatures, names, parts of the block.
+
+use std::fmt::{self, Write};
+
+/// A GUID: its 16 bytes as they stand in the block.
+#[derive(Clone, Copy, Debug, PartialEq, Eq, Hash)]
+pub struct Guid(pub [u8; 16]);
+
+impl Guid {
+    pub(crate) fn from_words(words: [u32; 4]) -> Guid {
+        let mut bytes = [0; 16];
+        for (part, word) in bytes.chunks_exact_mut(4).zip(words) {
+            part.copy_from_slice(&word.to_le_bytes());
+        }
+        Guid(bytes)
+    }
+}
+
+/// The usual form: three little-endian numbers, then bytes in order.
+impl fmt::Display for Guid {
+    fn fmt(&self, f: &mut fmt::Formatter<'_>) -> fmt::Result {
+        let [a, b, c, d, e, g, h, i, rest @ ..] = self.0;
+        let first = u32::from_le_bytes([a, b, c, d]);
+        let (second, third) = (u16::from_le_bytes([e, g]), u16::from_le_bytes([h, i]));
+        let [j, k, node @ ..] = rest;
+        write!(f, "{first:08X}-{second:04X}-{third:04X}-{j:02X}{k:02X}-")?;
+        node.iter().try_for_each(|byte| write!(f, "{byte:02X}"))
+    }
+}
+
+/// Four bytes that say what stands behind them. Shown, bytes that are no letters are escaped.
+#[derive(Clone, Copy, Debug, PartialEq, Eq, Hash)]
+pub struct Signature(pub [u8; 4]);
+
+impl Signature {
+    pub(crate) fn from_word(word: u32) -> Signature {
+        Signature(word.to_le_bytes())
+    }
+}
+
+impl fmt::Display for Signature {
+    fn fmt(&self, f: &mut fmt::Formatter<'_>) -> fmt::Result {
+        write!(f, "{}", self.0.escape_ascii())
+    }
+}
+
+/// A part of the block: where it starts, and its bytes.
+#[derive(Clone, Copy, PartialEq, Eq, Hash)]
+pub struct Part<'a> {
+    pub start: u32,
+    pub bytes: &'a [u8],
+}
+
+impl<'a> Part<'a> {
+    /// The reading says of each part that it lies in the block.
+    pub(crate) fn of(block: &'a [u8], start: u32, length: u32) -> Part<'a> {
+        let bytes = &block[start as usize..][..length as usize];
+        Part { start, bytes }
+    }
+}
+
+/// Without the bytes, which may be many.
+impl fmt::Debug for Part<'_> {
+    fn fmt(&self, f: &mut fmt::Formatter<'_>) -> fmt::Result {
+        write!(f, "{} bytes at {}", self.bytes.len(), self.start)
+    }
+}
+
+/// A name's text, in the block: 16-bit units. Shown, it is text.
+#[derive(Clone, Copy, PartialEq, Eq, Hash)]
+pub struct Name<'a>(pub Part<'a>);
+
+impl<'a> Name<'a> {
+    /// The name of an entry; offset 0 says that there is none.
+    pub(crate) fn of(block: &'a [u8], offset: u32, start: u32, units: u32) -> Option<Name<'a>> {
+        (offset != 0).then(|| Name(Part::of(block, start, 2 * units)))
+    }
+
+    /// The units, without the zero unit that may end them.
+    pub fn units(&self) -> impl Iterator<Item = u16> + use<'a> {
+        let pairs = self.0.bytes.chunks_exact(2);
+        pairs.map(|pair| u16::from_le_bytes([pair[0], pair[1]]))
+    }
+
+    /// The characters. The reading refuses units that are none, so nothing is replaced here.
+    pub fn chars(&self) -> impl Iterator<Item = char> + use<'a> {
+        char::decode_utf16(self.units()).map(|c| c.unwrap_or(char::REPLACEMENT_CHARACTER))
+    }
+}
+
+impl fmt::Display for Name<'_> {
+    fn fmt(&self, f: &mut fmt::Formatter<'_>) -> fmt::Result {
+        self.chars().try_for_each(|c| f.write_char(c))
+    }
+}
+
+impl fmt::Debug for Name<'_> {
+    fn fmt(&self, f: &mut fmt::Formatter<'_>) -> fmt::Result {
+        write!(f, "{:?}", self.to_string())
+    }
+}
+
+impl PartialEq<str> for Name<'_> {
+    fn eq(&self, text: &str) -> bool {
+        self.chars().eq(text.chars())
+    }
+}
+
+impl PartialEq<&str> for Name<'_> {
+    fn eq(&self, text: &&str) -> bool {
+        self == *text
+    }
+}

@@ -1,0 +1,140 @@
+//! Blocks to read.
+
+/// `CRIM`, size 16, no provider.
+pub fn z() -> Vec<u8> {
+    let mut z = b"CRIM".to_vec();
+    z.extend(words(&[16, 0, 0]));
+    z
+}
+
+/// One provider with one table, a TTBL, with one template: 116 bytes.
+pub fn t() -> Vec<u8> {
+    let mut t = vec![0; 116];
+    for (place, signature) in [(0, b"CRIM"), (36, b"WEVT"), (64, b"TTBL"), (76, b"TEMP")] {
+        t[place..place + 4].copy_from_slice(signature);
+    }
+    for (place, value) in [
+        (4, 116), // CRIM.size
+        (12, 1),  // provider count
+        (32, 36), // provider offset
+        (40, 80), // WEVT.size
+        (48, 1),  // descriptor count
+        (56, 64), // descriptor offset
+        (68, 52), // TTBL.size
+        (72, 1),  // TTBL count
+        (80, 40), // TEMP.size
+    ] {
+        t = with(&t, place, value);
+    }
+    t
+}
+
+/// A copy with one word set.
+pub fn with(blob: &[u8], place: usize, value: u32) -> Vec<u8> {
+    let mut copy = blob.to_vec();
+    copy[place..place + 4].copy_from_slice(&value.to_le_bytes());
+    copy
+}
+
+/// One provider with something in each list; in the order of the file: the name `Größe 𝄞`, a
+/// CHAN, an EVNT, a KEYW, a MAPS, a TTBL, and an element `What`.
+pub fn rich() -> Vec<u8> {
+    let mut b = Block(b"CRIM".to_vec());
+    b.words(&[0, 0x0002_0001, 1]);
+    b.0.extend(1..=16); // the provider's GUID
+    b.words(&[36]);
+
+    // The WEVT, with room for six descriptors, and two unknown2 words behind them.
+    let wevt = b.signature(b"WEVT");
+    b.words(&[68, u32::MAX, 6, 2]);
+    b.words(&[0; 12]);
+    b.words(&[700, 701]);
+    let mut elements = Vec::new();
+
+    let name = b.here();
+    let units: Vec<u8> = "Größe 𝄞\0"
+        .encode_utf16()
+        .flat_map(u16::to_le_bytes)
+        .collect();
+    b.words(&[4 + units.len() as u32]);
+    b.0.extend(units);
+
+    elements.push(b.signature(b"CHAN"));
+    b.words(&[44, 2]);
+    b.words(&[9, name, 5, 1000]);
+    b.words(&[10, 0, 6, u32::MAX]);
+
+    elements.push(b.signature(b"EVNT"));
+    b.words(&[67, 1, 77]);
+    b.words(&[
+        0x0302_0001,
+        0x0007_0504,
+        8,
+        9,
+        u32::MAX,
+        0,
+        11,
+        0,
+        13,
+        14,
+        15,
+        16,
+    ]);
+    b.0.extend([1, 2, 3]); // trailing
+
+    elements.push(b.signature(b"KEYW"));
+    b.words(&[28, 1]);
+    b.words(&[1, 2, 3, 0]);
+
+    // Two maps: the first stands behind the one offset, the second where that says.
+    elements.push(b.signature(b"MAPS"));
+    let maps = b.here();
+    b.words(&[0, 2, 0]);
+    b.words(&[maps + 12 + 4 + 34]);
+    b.signature(b"VMAP");
+    b.words(&[34, name, 2, 1, 100, 2, u32::MAX]);
+    b.0.extend([8, 9]); // data
+    b.signature(b"BMAP");
+
+    elements.push(b.signature(b"TTBL"));
+    b.words(&[56, 1]);
+    let temp = b.signature(b"TEMP");
+    b.words(&[44, 0, 0, temp + 42, 3]);
+    b.0.extend(17..=32); // the template's GUID
+    b.0.extend([0xf, 0x1, 0x1, 0x0]);
+
+    elements.push(b.signature(b"What"));
+    b.words(&[9]);
+    b.0.push(33);
+
+    let mut bytes = with(&b.0, 4, b.here());
+    for (i, &element) in elements.iter().enumerate() {
+        let descriptor = wevt as usize + 20 + 8 * i;
+        bytes = with(&bytes, descriptor, element);
+        bytes = with(&bytes, descriptor + 4, 200 + i as u32);
+    }
+    bytes
+}
+
+struct Block(Vec<u8>);
+
+impl Block {
+    fn here(&self) -> u32 {
+        self.0.len() as u32
+    }
+
+    /// Gives the place where it stands.
+    fn signature(&mut self, signature: &[u8; 4]) -> u32 {
+        let place = self.here();
+        self.0.extend(signature);
+        place
+    }
+
+    fn words(&mut self, values: &[u32]) {
+        self.0.extend(words(values));
+    }
+}
+
+fn words(values: &[u32]) -> impl Iterator<Item = u8> {
+    values.iter().flat_map(|value| value.to_le_bytes())
+}

@@ -1,0 +1,215 @@
+//! compare COUNT SEED JOBS: generated blobs through the original and through the library.
+//!
+//! Each blob is read several times, with memory lent in different ways. Compared are all numbers
+//! of the answer and every lent word: those that must be written, and those that must be kept.
+
+mod lending;
+
+use std::process::ExitCode;
+use std::sync::atomic::{AtomicBool, AtomicU64, Ordering::Relaxed};
+use std::thread;
+
+use answers::{Answer, answer};
+use generator::known::{self, Shared};
+use generator::{Rng, large};
+use lending::{Lending, Numbers, Reader};
+
+/// How many large blobs there are, whatever the count.
+const LARGE: u64 = 64;
+
+fn main() -> ExitCode {
+    let arguments: Vec<Option<u64>> = std::env::args().skip(1).map(|a| a.parse().ok()).collect();
+    let &[Some(count), Some(seed), Some(jobs @ 1..)] = arguments.as_slice() else {
+        eprintln!("usage: oracle/compare [COUNT] [SEED] [JOBS]");
+        return ExitCode::from(2);
+    };
+    let run = Run {
+        seed,
+        count,
+        next: AtomicU64::new(0),
+        failed: AtomicBool::new(false),
+    };
+    let totals: Vec<Totals> = thread::scope(|scope| {
+        let workers: Vec<_> = (0..jobs).map(|_| scope.spawn(|| run.work())).collect();
+        let joined = workers.into_iter().map(|worker| worker.join());
+        joined.map(|totals| totals.unwrap_or_default()).collect()
+    });
+    if run.failed.load(Relaxed) {
+        return ExitCode::FAILURE;
+    }
+    if let Err(difference) = past_32_bits() {
+        eprintln!("{difference}");
+        return ExitCode::FAILURE;
+    }
+    let total = totals.into_iter().fold(Totals::default(), Totals::plus);
+    println!(
+        "{count} blobs of seed {seed} and {LARGE} large ones: {} accepted, {} refused; \
+         {} readings, {} of them 7, {} 8, {} 9: no difference",
+        total.accepted,
+        total.refused,
+        total.readings,
+        total.by_code[7],
+        total.by_code[8],
+        total.by_code[9]
+    );
+    ExitCode::SUCCESS
+}
+
+struct Run {
+    seed: u64,
+    count: u64,
+    /// The next blob that nobody has taken. The large ones come first, since they take longest.
+    next: AtomicU64,
+    failed: AtomicBool,
+}
+
+#[derive(Default)]
+struct Totals {
+    accepted: u64,
+    refused: u64,
+    readings: u64,
+    by_code: [u64; 10],
+}
+
+impl Totals {
+    fn plus(mut self, other: Totals) -> Totals {
+        self.accepted += other.accepted;
+        self.refused += other.refused;
+        self.readings += other.readings;
+        for (mine, theirs) in self.by_code.iter_mut().zip(other.by_code) {
+            *mine += theirs;
+        }
+        self
+    }
+}
+
+impl Run {
+    /// Takes blobs until there are none left, or one differs.
+    fn work(&self) -> Totals {
+        let mut worker = Worker::default();
+        loop {
+            let number = self.next.fetch_add(1, Relaxed);
+            if number >= LARGE + self.count || self.failed.load(Relaxed) {
+                return worker.totals;
+            }
+            let (index, is_large) = match number.checked_sub(LARGE) {
+                Some(index) => (index, false),
+                None => (number, true),
+            };
+            // A panic of the original is a difference too; here it is known of which blob.
+            let result = std::panic::catch_unwind(std::panic::AssertUnwindSafe(|| {
+                worker.compare(self.seed, index, is_large)
+            }));
+            let difference = match result {
+                Ok(Ok(())) => continue,
+                Ok(Err(difference)) => difference,
+                Err(_) => "no answer".to_string(),
+            };
+            if !self.failed.swap(true, Relaxed) {
+                let kind = if is_large { "large blob" } else { "blob" };
+                eprintln!("{kind} {index} of seed {}: {difference}", self.seed);
+            }
+            return worker.totals;
+        }
+    }
+}
+
+#[derive(Default)]
+struct Worker {
+    reader: Reader,
+    totals: Totals,
+    /// The longest bytes that are lent, and some more: any blob can stand at their start.
+    long: Vec<u8>,
+}
+
+impl Worker {
+    fn compare(&mut self, seed: u64, index: u64, is_large: bool) -> Result<(), String> {
+        let mut rng = Rng::new(seed, index);
+        let blob = if is_large {
+            large::blob(&mut rng)
+        } else {
+            generator::blob(&mut rng, generator::DAMAGED)
+        };
+        let found = answer(&blob);
+        match found.code {
+            0 => self.totals.accepted += 1,
+            _ => self.totals.refused += 1,
+        }
+        self.lend_in_turn(&blob, &found, &mut rng)?;
+        // Roomy to the limit takes time: 20 megabytes of words.
+        if is_large || index.is_multiple_of(5000) {
+            self.read(&blob, &found, &Lending::most())?;
+        }
+        if !is_large && index.is_multiple_of(16) {
+            self.lend_longer(&blob, &mut rng)?;
+        }
+        Ok(())
+    }
+
+    /// The same bytes with words that fit, are more, are too few, or are refused.
+    fn lend_in_turn(&mut self, blob: &[u8], found: &Answer, rng: &mut Rng) -> Result<(), String> {
+        let counts = found.counts();
+        self.read(blob, found, &Lending::exact(&counts))?;
+        self.read(blob, found, &Lending::roomy(&counts, rng))?;
+        self.read(blob, found, &Lending::refused(&counts, rng))?;
+        if counts.iter().any(|&count| count > 0) {
+            self.read(blob, found, &Lending::one_short(&counts, rng))?;
+            self.read(blob, found, &Lending::several_short(&counts, rng))?;
+        }
+        Ok(())
+    }
+
+    /// More bytes: behind the blob's size they don't matter, up to the longest that is read.
+    fn lend_longer(&mut self, blob: &[u8], rng: &mut Rng) -> Result<(), String> {
+        let mut long = std::mem::take(&mut self.long);
+        long.resize(large::LONGEST + 64, 0xa5);
+        let before = long[..blob.len()].to_vec();
+        long[..blob.len()].copy_from_slice(blob);
+        let some = blob.len() + rng.between(1, 64);
+        let past = large::LONGEST + rng.between(1, 64);
+        for length in [some, large::LONGEST, large::LONGEST + 1, past] {
+            let bytes = &long[..length];
+            self.lend_in_turn(bytes, &answer(bytes), rng)?;
+        }
+        long[..blob.len()].copy_from_slice(&before);
+        self.long = long;
+        Ok(())
+    }
+
+    fn read(&mut self, blob: &[u8], found: &Answer, lending: &Lending) -> Result<(), String> {
+        let expected = lending.expected(found);
+        let read = self.reader.read(blob, lending, &expected, &found.lists);
+        self.totals.readings += 1;
+        self.totals.by_code[expected[0] as usize] += 1;
+        read.map_err(|difference| format!("{difference}{}", shown(blob)))
+    }
+}
+
+/// Many providers over one WEVT: so many entries that their number, kept in 32 bits, would come out
+/// as one that fits. The original has no memory for them; what the answer must be is plain.
+fn past_32_bits() -> Result<(), String> {
+    let mut reader = Reader::default();
+    for (what, list) in [
+        (Shared::Unknown2, 3),
+        (Shared::Events, 6),
+        (Shared::MapEntries, 8),
+    ] {
+        let blob = known::shared(65_536, 65_537, what);
+        let mut expected: Numbers = [0; 15];
+        [expected[0], expected[3], expected[4]] = [9, list, 65_536];
+        let read = reader.read(&blob, &Lending::most(), &expected, &Default::default());
+        read.map_err(|difference| {
+            format!("65536 providers with 65537 {what:?} each: {difference}")
+        })?;
+    }
+    Ok(())
+}
+
+/// A blob's bytes, if they aren't too many to look at.
+fn shown(blob: &[u8]) -> String {
+    if blob.len() > 4096 {
+        return format!("\n{} bytes", blob.len());
+    }
+    let hex: String = blob.iter().map(|byte| format!("{byte:02x}")).collect();
+    format!("\n{hex}")
+}

@@ -1,0 +1,171 @@
+//! What is special about a blob and its answer, so that a sample can have some of each.
+
+use answers::{Answer, WORDS};
+
+/// A name of the trait and some numbers that tell it from others of that name.
+pub type Trait = (&'static str, [u32; 4]);
+
+/// A list's entries, counted from list 1.
+fn entries(answer: &Answer, list: usize) -> impl Iterator<Item = &[u32]> {
+    answer.lists[list - 1].chunks_exact(WORDS[list - 1])
+}
+
+pub fn traits(blob: &[u8], answer: &Answer) -> Vec<Trait> {
+    let mut traits = if answer.code == 0 {
+        accepted(blob, answer)
+    } else {
+        refused(blob, answer)
+    };
+    traits.sort();
+    traits.dedup();
+    traits
+}
+
+fn refused(blob: &[u8], answer: &Answer) -> Vec<Trait> {
+    let Answer {
+        code,
+        field,
+        first,
+        second,
+        ..
+    } = *answer;
+    let length = blob.len() as u32;
+    // How the numbers lie to each other: what is missing, by how much an offset is past the end.
+    let by = match code {
+        1 => few(first - second),
+        2 => first as u32,
+        3 => few(first),
+        5 => few(u64::from(answer.place.abs_diff(length))),
+        _ => 0,
+    };
+    vec![
+        ("pair", [code, field, 0, 0]),
+        ("numbers", [code, field, by, u32::from(second == 0)]),
+    ]
+}
+
+fn accepted(blob: &[u8], answer: &Answer) -> Vec<Trait> {
+    let mut traits = vec![(
+        "stray bytes",
+        [u32::from(blob.len() as u64 > answer.first), 0, 0, 0],
+    )];
+    for (list, count) in (1..).zip(answer.counts()) {
+        traits.push(("entries", [list, few(count as u64), 0, 0]));
+    }
+    for provider in entries(answer, 1) {
+        let absent = u32::from(provider[6] == u32::MAX);
+        traits.push((
+            "provider",
+            [absent, few(provider[7].into()), few(provider[8].into()), 0],
+        ));
+    }
+    traits.extend(descriptors(answer));
+    for table in entries(answer, 4) {
+        let sized = u32::from(table[3] != 0);
+        traits.push(("table", [table[1], sized, few(table[6].into()), 0]));
+        // Not the first provider's, and entries before its own.
+        traits.push((
+            "table's place",
+            [table[1], few(table[0].into()), few(table[5].into()), 0],
+        ));
+        traits.push((
+            "trailing",
+            [few(table[8].into()), few(table[4].into()), 0, 0],
+        ));
+    }
+    for definition in entries(answer, 5) {
+        let absent = u32::from(definition[3] == u32::MAX);
+        let name = named(blob, definition[4], definition[5], definition[6]);
+        traits.push(("definition", [definition[0], absent, name, 0]));
+        traits.push((
+            "identifier",
+            [
+                definition[0],
+                few(definition[1].into()),
+                few(definition[2].into()),
+                0,
+            ],
+        ));
+    }
+    for event in entries(answer, 6) {
+        for (place, &word) in (0..).zip(event) {
+            traits.push(("event", [place, few(word.into()), 0, 0]));
+        }
+    }
+    for map in entries(answer, 7) {
+        let name = named(blob, map[4], map[5], map[6]);
+        traits.push(("map", [map[0], few(map[8].into()), few(map[10].into()), 0]));
+        traits.push(("map's place", [map[0], name, few(map[7].into()), 0]));
+    }
+    for entry in entries(answer, 8) {
+        traits.push((
+            "map entry",
+            [few(entry[0].into()), few(entry[1].into()), 0, 0],
+        ));
+    }
+    for template in entries(answer, 9) {
+        let items = match template[4].checked_sub(template[0]) {
+            None => 0,
+            Some(0..40) => 1,
+            Some(from) if from == template[1] => 2,
+            Some(_) => 3,
+        };
+        traits.push((
+            "template",
+            [
+                items,
+                few(template[2].into()),
+                few(template[3].into()),
+                few(template[11].into()),
+            ],
+        ));
+    }
+    for unknown in entries(answer, 10) {
+        traits.push((
+            "unknown",
+            [few(unknown[0].into()), few(unknown[3].into()), 0, 0],
+        ));
+    }
+    traits
+}
+
+/// Signatures that a provider names twice: of a kind, where the last is kept, or of none.
+fn descriptors(answer: &Answer) -> Vec<Trait> {
+    let mut traits = Vec::new();
+    let mut all = entries(answer, 2);
+    for provider in entries(answer, 1) {
+        let own: Vec<&[u32]> = all.by_ref().take(provider[7] as usize).collect();
+        for (i, one) in own.iter().enumerate() {
+            for other in &own[..i] {
+                if one[2] == other[2] {
+                    let same = u32::from(one[0] == other[0]);
+                    traits.push(("named twice", [one[2], same, 0, 0]));
+                }
+            }
+        }
+    }
+    traits
+}
+
+/// What a name is like: absent, empty, ended by a zero unit or not, with pairs or without.
+fn named(blob: &[u8], offset: u32, start: u32, units: u32) -> u32 {
+    if offset == 0 {
+        return 0;
+    }
+    let [offset, start, units] = [offset, start, units].map(|word| word as usize);
+    let size = u32::from_le_bytes(blob[offset..offset + 4].try_into().expect("four bytes"));
+    let ended = u32::from(units < (size as usize - 4) / 2);
+    let highs = blob[start..start + 2 * units].chunks_exact(2);
+    let pairs = u32::from(highs.filter(|unit| unit[1] & 0xfc == 0xd8).count() > 0);
+    1 + ended + 2 * pairs + 4 * few(units as u64)
+}
+
+/// A number as far as a trait tells it from others: the small ones, the largest, the rest.
+fn few(number: u64) -> u32 {
+    match number {
+        0..=3 => number as u32,
+        0xffff_ffff => 5,
+        0x8000_0000.. => 6,
+        _ => 4,
+    }
+}
