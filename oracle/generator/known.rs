@@ -1,42 +1,7 @@
 //! Blobs that have a name: those of docs/FORMAT.md, and some that lie at a limit.
 
 use crate::draft::Draft;
-
-/// `CRIM`, size 16, no provider.
-pub fn z() -> Vec<u8> {
-    let mut z = vec![0; 16];
-    z[..4].copy_from_slice(b"CRIM");
-    with(&z, 4, 16)
-}
-
-/// One provider with one table, a TTBL, with one template.
-pub fn t() -> Vec<u8> {
-    let mut t = vec![0; 116];
-    for (place, signature) in [(0, b"CRIM"), (36, b"WEVT"), (64, b"TTBL"), (76, b"TEMP")] {
-        t[place..place + 4].copy_from_slice(signature);
-    }
-    for (place, value) in [
-        (4, 116), // CRIM.size
-        (12, 1),  // provider count
-        (32, 36), // provider offset
-        (40, 80), // WEVT.size
-        (48, 1),  // descriptor count
-        (56, 64), // descriptor offset
-        (68, 52), // TTBL.size
-        (72, 1),  // TTBL count
-        (80, 40), // TEMP.size
-    ] {
-        t = with(&t, place, value);
-    }
-    t
-}
-
-/// A copy of the blob with one word set.
-pub fn with(blob: &[u8], place: usize, value: u32) -> Vec<u8> {
-    let mut copy = blob.to_vec();
-    copy[place..place + 4].copy_from_slice(&value.to_le_bytes());
-    copy
-}
+pub use crate::small::{t, with, z};
 
 /// The blobs of the cases of docs/FORMAT.md, in their order.
 pub fn cases() -> [(&'static str, Vec<u8>); 12] {

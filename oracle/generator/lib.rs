@@ -11,6 +11,7 @@ mod maps;
 mod names;
 mod rng;
 mod shape;
+mod small;
 
 pub use rng::Rng;
 

@@ -11,14 +11,15 @@ pub mod Map
 pub mod Provider
 pub mod Crim
 pub mod Lists
-pub mod Needs
-pub mod Parts
 pub mod Answer
 pub mod Lookup
 pub mod Handle
 pub mod Listing
 pub mod Says
 pub mod Rests
+-- What the building blocks speak of besides: what lists need, and what each has of a table and of a provider.
+pub mod Needs
+pub mod Parts
 -- Theorems about it.
 pub mod Cases
 pub mod Examples
