@@ -11,7 +11,7 @@ use Rattle.blob.specs.Le.{le}
 use Rattle.blob.specs.declared.Refusal.{Refusal}
 use Rattle.blob.specs.declared.Verdict.the-variants as verdicts
 use Rattle.blob.specs.Reading.{Outcome, done, refused, choose, run, many, each, then, verdict, values}
-use Rattle.blob.specs.Laws.{run-bind, run-after, not-fine, fine-done, then-done, told-more, many-empty, many-stop, values-more, each-told, each-stop}
+use Rattle.blob.specs.Laws.{fine-value, run-bind, run-after, not-fine, fine-done, then-done, told-more, many-empty, many-stop, values-more, each-told, each-stop}
 use Rattle.blob.specs.Asks.{Finds, finds-got, finds-room, finds-next}
 use Rattle.format.specs.Table.{kindOf}
 use Rattle.format.specs.Definition.{step}
@@ -20,11 +20,6 @@ use Rattle.format.specs.Lists.{lastOf, or-else}
 use Rattle.format.specs.Needs.{placeOf}
 use Rattle.format.specs.declared.Descriptor.{Descriptor}
 use Rattle.element.specs.Tables.{kind-most, is-unknown, is-table}
-
--- an accepted outcome's value
-is-fine : {A : Type 0} (o : Outcome A) → verdict o ≡ verdicts.Fine → (a : A) × (o ≡ done a)
-is-fine (done a) v = (a, refl)
-is-fine (refused r) v = absurd (not-fine r v)
 
 -- a descriptor that is fine is its words
 module _ (s : List ℕ) (at : ℕ) where
@@ -39,12 +34,12 @@ module _ (s : List ℕ) (at : ℕ) where
 
   module _ (v : verdict (run (descriptorAt at) s) ≡ verdicts.Fine) where
     pub descriptor-fits : le 4 s at + 4 ≤ length s
-    descriptor-fits = let d = is-fine _ v in descriptor-told .found (d .0) (d .1) .1
+    descriptor-fits = let d = fine-value _ v in descriptor-told .found (d .0) (d .1) .1
 
     pub descriptor-words : (offset unknown signature : ℕ) → offset ≡ le 4 s at → unknown ≡ le 4 s (at + 4) → signature ≡ le 4 s offset
         → run (descriptorAt at) s ≡ done (record { offset = offset; unknown = unknown; signature = signature })
     descriptor-words o u g eo eu eg =
-        let d = is-fine _ v in
+        let d = fine-value _ v in
         rw (eg, eu, eo) (d .1 ∙ ap done (descriptor-told .found (d .0) (d .1) .0))
 
 module _ (s : List ℕ) (left at : ℕ) where
