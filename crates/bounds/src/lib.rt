@@ -102,16 +102,6 @@ fn has_room(b: &[u8], at: usize, needed: usize) -> bool
     true
 }
 
-// Whether a place is not past the blob.
-pub fn within(b: &[u8], field: u8, at: usize) -> Verdict
-    ensures { λ r. ⌜ r ≡ verdict (run (refuse.within field at (got (tt {0}))) (now (b .entry))) ⌝ }
-{
-    if at <= b.len() {
-        return Verdict::Fine;
-    }
-    Verdict::Refused(offset_out(b, field, at))
-}
-
 // Whether so many bytes from a place on are wholly in the blob.
 pub fn whole(b: &[u8], field: u8, at: usize, needed: usize) -> Verdict
     ensures { λ r. ⌜ r ≡ verdict (run (refuse.whole field at needed (got (tt {0}))) (now (b .entry))) ⌝ }

@@ -131,6 +131,31 @@ fn moderate(c: Counts) -> bool
     )
 }
 
+// The ten numbers, in list order.
+pub fn ten(c: Counts) -> [u32; 10]
+    ensures { λ r. ⌜ r ≡ answer.ten c ⌝ }
+{
+    [
+        c.providers,
+        c.descriptors,
+        c.unknown2,
+        c.tables,
+        c.definitions,
+        c.events,
+        c.maps,
+        c.entries,
+        c.templates,
+        c.unknown,
+    ]
+}
+
+// The words of an entry of each list.
+pub fn widths() -> [u32; 10]
+    ensures { λ r. ⌜ r ≡ answer.widths ⌝ }
+{
+    [9, 3, 1, 9, 12, 16, 11, 2, 12, 4]
+}
+
 // The words of an area.
 pub fn area(capacity: u32, width: u32) -> usize
     requires { ⌜ width ≤ 16 ⌝ }

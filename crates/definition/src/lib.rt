@@ -5,8 +5,7 @@ ghost use lib.ListN.{length};
 ghost use Rattle.blob.specs.Reading.{run, done, verdict, values};
 ghost use Rattle.blob.specs.Laid.{laid, flat};
 ghost use Rattle.format.specs.Table.{header-length, stride};
-ghost use Rattle.format.specs.Name as spec-name;
-ghost use Rattle.format.specs.Definition.{guidAt, channelFields, keywordFields, taskFields, plainFields, fieldsAt, name-field, named, definitionAt, definitionRead, definitionsAt};
+ghost use Rattle.format.specs.Definition.{channelFields, keywordFields, taskFields, plainFields, fieldsAt, name-field, named, definitionAt, definitionRead, definitionsAt};
 ghost use Rattle.format.specs.Lists.{definitionWords};
 ghost use Rattle.definition.specs.Records.{rows};
 use blob::Verdict;
@@ -153,7 +152,7 @@ fn with_name(d: Definition, n: Name) -> Definition
 }
 
 // The definition whose record stands at a place.
-pub fn definition_at(b: &[u8], kind: u32, at: usize) -> DefinitionRead
+fn definition_at(b: &[u8], kind: u32, at: usize) -> DefinitionRead
     requires { ⌜ (kind ≤ 8) × (12 ≤ stride kind) × (at + stride kind ≤ length (now b)) ⌝ }
     requires { ⌜ length (now b) ≤ 16777216 ⌝ }
     ensures { λ r. ⌜ r ≡ definitionRead (run (definitionAt kind at) (now (b .entry))) ⌝ }

@@ -17,7 +17,6 @@ use Rattle.format.specs.Table.{kindOf}
 use Rattle.format.specs.Definition.{step}
 use Rattle.format.specs.Provider.{Table, Element, table, unknown, descriptorAt, elementAt, elementsFrom}
 use Rattle.format.specs.Lists.{lastOf, or-else}
-use Rattle.format.specs.Needs.{placeOf}
 use Rattle.format.specs.declared.Descriptor.{Descriptor}
 use Rattle.element.specs.Tables.{kind-most, is-unknown, is-table}
 
@@ -103,7 +102,7 @@ lastOr f b [] = b
 lastOr f b (t ∷ ts) = f t
 
 module _ {B : Type 0} (f : Table → B) (b : B) (k : ℕ) where
-  last-table : (t : Table) (es : List Element) → lastOr f b (lastOf k (table t ∷ es)) ≡ lastOr f (choose (eqb (t .kind) k) (f t) b) (lastOf k es)
+  pub last-table : (t : Table) (es : List Element) → lastOr f b (lastOf k (table t ∷ es)) ≡ lastOr f (choose (eqb (t .kind) k) (f t) b) (lastOf k es)
   unfolding lastOf
   last-table t es = go (lastOf k es) (eqb (t .kind) k)
     where
@@ -131,33 +130,3 @@ module _ {B : Type 0} (f : Table → B) (b : B) (k : ℕ) where
             let t = is-table s (suc n) (d .offset) e (omega arith) (rw p at (kind-most (d .signature))) (rw p at i) in
             let x : eqb (t .0 .kind) k ≡ false = ne-eqb _ _ (λ y. q (p ∙ sym (t .3 .kind) ∙ y)) in
             rw (t .1) (last-table (t .0) es ∙ rw x)
-
--- where the last table of a kind stands; where there is none, the place before
-abbrev pub placeOr : ℕ → List Table → ℕ
-placeOr p ts = lastOr (λ t. t .offset) p ts
-
-pub placed : (ts : List Table) → placeOf ts ≡ placeOr 4294967295 ts
-placed [] = refl
-placed (t ∷ ts) = refl
-
-module _ (s : List ℕ) (left at : ℕ) (h : 0 < left) (d : Descriptor) (found : run (descriptorAt at) s ≡ done d) (v : verdict (run (elementsFrom left at) s) ≡ verdicts.Fine) (k place : ℕ) (one : 1 ≤ k) where
-  abbrev first : Element
-  first = next-element s left at h d found v .0
-
-  module _ (to : ℕ) where
-    pub place-here : kindOf (d .signature) ≡ k → to ≡ d .offset
-        → placeOr place (lastOf k (values (run (elementsFrom left at) s))) ≡ placeOr to (lastOf k (values (run (elementsFrom (left - 1) (at + 8)) s)))
-    place-here q e =
-        ap (λ es. placeOr place (lastOf k es)) (from-values s left at h d found v)
-        ∙ last-here _ place k s d first (next-element s left at h d found v .1) one q to (λ t _ p. p ∙ sym e) _
-
-    pub place-other : (kindOf (d .signature) ≡ k → ⊥) → to ≡ place
-        → placeOr place (lastOf k (values (run (elementsFrom left at) s))) ≡ placeOr to (lastOf k (values (run (elementsFrom (left - 1) (at + 8)) s)))
-    place-other q e =
-        ap (λ es. placeOr place (lastOf k es)) (from-values s left at h d found v)
-        ∙ last-other _ place k s d first (next-element s left at h d found v .1) one q _
-        ∙ rw e
-
-pub place-none : (s : List ℕ) (left at k place : ℕ) → left ≤ 0 → placeOr place (lastOf k (values (run (elementsFrom left at) s))) ≡ place
-unfolding lastOf
-place-none s left at k place h = ap (λ o. placeOr place (lastOf k (values o))) (from-none s left at h)

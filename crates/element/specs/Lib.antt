@@ -1,5 +1,6 @@
 pub mod Tables
 pub mod Elements
+pub mod Places
 pub mod Kinds
 pub mod Checked
 pub mod Counted

@@ -6,9 +6,9 @@ ghost use Rattle.blob.specs.Reading.{run, done, verdict, values, many};
 ghost use Rattle.format.specs.Definition.{step};
 ghost use Rattle.format.specs.Table.{kindOf, header-length};
 ghost use Rattle.format.specs.Provider.{descriptorAt, unknownAt, eventsAt, tableAt, elementOf, elementsFrom};
-ghost use Rattle.format.specs.Lists.{lastOf};
 ghost use Rattle.element.specs.Checked.{without-entries};
-ghost use Rattle.format.specs.Needs.{elementRead, elementsRead, tableRead, placeOf, cappedWritten, tablesOf};
+ghost use Rattle.element.specs.Places.{placed};
+ghost use Rattle.format.specs.Needs.{elementRead, elementsRead, tableRead, cappedWritten, tablesOf};
 use blob::Verdict;
 use format::Descriptor;
 use format::ElementsRead;
@@ -113,7 +113,7 @@ fn check_table(b: &[u8], kind: u32, at: usize, h: Header) -> EntriesRead
 }
 
 // Whether the element of a kind at a place is fine, and how many map entries it has.
-pub fn check_element(b: &[u8], kind: u32, at: usize) -> EntriesRead
+fn check_element(b: &[u8], kind: u32, at: usize) -> EntriesRead
     requires { ⌜ (kind ≤ 8) × (length (now b) ≤ 16777216) ⌝ }
     ensures { λ r. ⌜ r ≡ elementRead (run (elementOf kind at) (now (b .entry))) ⌝ }
 {
@@ -170,24 +170,21 @@ pub fn check_elements(b: &[u8], start: usize, n: u32) -> ElementsRead
     ElementsRead::Fine(unknown, entries)
 }
 
-// Where the table of a kind stands that is kept: the last one that n descriptors name.
-pub fn last_of(b: &[u8], start: usize, n: u32, kind: u32) -> u32
-    requires { ⌜ (start + 8 * n ≤ length (now b)) × (1 ≤ kind) ⌝ }
+// Where the tables of n descriptors' elements stand, by kind: of two of a kind the last. Elements of no known kind have the place of kind 0.
+pub fn place_tables(b: &[u8], start: usize, n: u32, places: &mut [u32])
+    requires { ⌜ (start + 8 * n ≤ length (now b)) × (length (now places) ≡ 9) ⌝ }
     requires { ⌜ verdict (run (elementsFrom n start) (now b)) ≡ Verdict.Fine ⌝ }
-    ensures { λ r. ⌜ r ≡ placeOf (lastOf kind (values (run (elementsFrom n start) (now (b .entry))))) ⌝ }
+    ensures { λ _. ⌜ now (places .exit) ≡ placed (now (places .entry)) (values (run (elementsFrom n start) (now (b .entry)))) ⌝ }
 {
     let mut at = start;
     let mut left = n;
-    let mut place = NONE;
     while 0 < left {
         let d = descriptor_of(b, at);
-        if kind_of(d.signature) == kind {
-            place = d.offset;
-        }
+        let kind = kind_of(d.signature) as usize;
+        places[kind] = d.offset;
         at += 8;
         left -= 1;
     }
-    place
 }
 
 // How many tables are kept, and how many entries they have in the lists of their kinds.
@@ -196,6 +193,8 @@ pub fn count_tables(b: &[u8], start: usize, n: u32) -> Written
     requires { ⌜ verdict (run (elementsFrom n start) (now b)) ≡ Verdict.Fine ⌝ }
     ensures { λ r. ⌜ r ≡ cappedWritten (tablesOf (values (run (elementsFrom n start) (now (b .entry))))) ⌝ }
 {
+    let mut places = [NONE; 9];
+    place_tables(b, start, n, &mut places);
     let mut kind = 1;
     let mut left: u32 = 8;
     let mut w = Written {
@@ -206,7 +205,7 @@ pub fn count_tables(b: &[u8], start: usize, n: u32) -> Written
         templates: 0,
     };
     while 0 < left {
-        let place = last_of(b, start, n, kind);
+        let place = places[kind as usize];
         if place != NONE {
             w = counts::wrote(w, kind, blob::word(b, place as usize + 8));
         }

@@ -11,7 +11,7 @@ use format::Event;
 use words::put_four;
 
 // The event whose record stands at a place.
-pub fn event_at(b: &[u8], at: usize) -> Event
+fn event_at(b: &[u8], at: usize) -> Event
     requires { ⌜ at + 48 ≤ length (now b) ⌝ }
     ensures { λ r. ⌜ run (eventAt at) (now (b .entry)) ≡ done r ⌝ }
 {

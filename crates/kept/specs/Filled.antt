@@ -22,7 +22,7 @@ use Rattle.format.specs.Lists.{definitionWords, eventWords, templateWords, mapL
 use Rattle.format.specs.Needs.{with-table, cappedWritten, small, entryCount}
 use Rattle.format.specs.Parts.{fits, moved, walked}
 use Rattle.format.specs.declared.Header.{Header}
-use Rattle.format.specs.Grows.{Grows, walked-grows}
+use Rattle.format.specs.Grows.{Grows, walked-grows, fits-before}
 use Rattle.format.specs.declared.Walk.{Walk}
 use Rattle.format.specs.declared.Written.{Written}
 use Rattle.element.specs.Sums.{small-same}
@@ -40,11 +40,6 @@ definitions-stride (suc (suc (suc (suc (suc (suc zero)))))) h g e = omega arith
 definitions-stride (suc (suc (suc (suc (suc (suc (suc zero))))))) h g e = omega arith
 definitions-stride (suc (suc (suc (suc (suc (suc (suc (suc zero)))))))) h g e = absurd (let z : _≡_ {A = ℕ} 0 1 = cc in omega arith)
 definitions-stride (suc (suc (suc (suc (suc (suc (suc (suc (suc k))))))))) h g e = absurd (omega arith)
-
--- what fits behind some more fits before it
-pub fits-before : (v w : Walk) (n : ℕ) → Grows v w → fits w n → fits v n
-fits-before v w n g f =
-    (omega arith, omega arith, omega arith, omega (arith, g .written), omega (arith, g .written), omega (arith, g .written), omega (arith, g .written), omega (arith, g .written))
 
 -- a list that is known, and a kind
 pub by-list : (l m k at : ℕ) (h : Header) (s : List ℕ) (w : Walk) (n : ℕ) → l ≡ m → hasEntries l k ≡ true → fits (walkedBy l w (run (tableAt k at h) s)) n

@@ -1,29 +1,28 @@
 -- What a list has of the table of a kind that is kept: its rows, or nothing.
 use Prim.Native.Nat.{ℕ, _+_, _-_, _≤_, _<_}
 use mathlib.Core.Path.{_≡_, refl, ap, ap₂, sym, _∙_, subst}
-use mathlib.Core.Bool.{Bool, true, false, not}
+use mathlib.Core.Bool.{Bool, true, false}
 use mathlib.Core.List.{List, [], _∷_, _++_, append-nil, append-assoc}
 use native.Mathlib.Nat.{add-zero}
 use native.Mathlib.Omega.{arith}
 use lib.ListN.{length}
 use lib.Dec.{eqb}
-use borrow.Author.Tests.{ne-eqb}
+use borrow.Author.Tests.{ne-eqb, eqb-true, eqb-false}
 use Rattle.blob.specs.Le.{le}
 use Rattle.blob.specs.declared.Verdict.the-variants as verdicts
-use Rattle.blob.specs.Reading.{run, done, verdict, values}
+use Rattle.blob.specs.Reading.{Outcome, done, refused, choose, run, verdict, values}
+use Rattle.blob.specs.Laws.{fine-value}
 use Rattle.blob.specs.Laid.{flat, laid, laid-more}
 use Rattle.format.specs.Table.{EVNT, MAPS, TTBL, header-length}
 use Rattle.format.specs.Provider.{Table, Element, tableAt, elementsFrom}
 use Rattle.format.specs.Lists.{lastOf, definitionsIn, eventsIn, mapsIn, templatesIn, mapList}
 use Rattle.format.specs.Needs.{entryCount, placeOf}
 use Rattle.format.specs.Parts.{tablePart, walked, tableParts, walkedAll, fits}
-use Rattle.format.specs.Grows.{walkedAll-grows, walkedAll-to}
+use Rattle.format.specs.Grows.{walkedAll-grows, walkedAll-to, fits-before}
 use Rattle.format.specs.Listed.{each-of-ten}
 use Rattle.format.specs.declared.Header.{Header}
 use Rattle.format.specs.declared.Walk.{Walk}
-use Rattle.element.specs.Tables.{kept-one}
 use Rattle.element.specs.Kinds.{kept-here, kept-nowhere, keptFrom, kept-more}
-use Rattle.kept.specs.Filled.{fits-before}
 use Rattle.kept.specs.Rows.{holdsDefinitions, hasEntries, partBy, walkedBy, Shape, of-events, of-maps, of-templates, of-definitions, shape}
 
 module _ {k at : ℕ} {h : Header} {s : List ℕ} {t : Table} where
@@ -75,15 +74,6 @@ module _ (k at : ℕ) (h : Header) (s : List ℕ) (t : Table) (w : Walk) (e : ru
       (λ a b q. absurd (omega arith))
       l (omega arith) (omega arith) m n
 
--- a test that fails
-pub not-true : (b : Bool) → not b ≡ true → b ≡ false
-not-true true e = sym e
-not-true false e = refl
-
-pub not-false : (b : Bool) → not b ≡ false → b ≡ true
-not-false true e = refl
-not-false false e = sym e
-
 -- some tables and some more
 pub walkedAll-append : (l : ℕ) (w : Walk) (ts us : List Table) → walkedAll l w (ts ++ us) ≡ walkedAll l (walkedAll l w ts) us
 unfolding walkedAll
@@ -105,42 +95,93 @@ pub tableParts-one : (l : ℕ) (w : Walk) (t : Table) → tableParts l w (t ∷ 
 unfolding tableParts
 tableParts-one l w t = append-nil (tablePart l w t)
 
-module _ (s : List ℕ) (n at l k : ℕ) (w : Walk) (v : verdict (run (elementsFrom n at) s) ≡ verdicts.Fine) where
-  abbrev last : List Table
-  last = lastOf k (values (run (elementsFrom n at) s))
+-- The table of a kind that is kept at a place, by its header's words; none at the place that no blob has.
+abbrev pub headed : List ℕ → ℕ → Header
+headed s at = record { size = le 4 s (at + 4); count = le 4 s (at + 8) }
 
-  pub kind-nothing : 4 ≤ l → l ≤ 9 → hasEntries l k ≡ false → (tableParts l w last ≡ []) × (walkedAll l w last ≡ w)
-  unfolding tableParts walkedAll
-  kind-nothing a b q = go last refl
+abbrev pub only : Outcome Table → List Table
+only (done t) = t ∷ []
+only (refused r) = []
+
+abbrev pub keptAt : List ℕ → ℕ → ℕ → List Table
+keptAt s k place = choose (eqb place 4294967295) [] (only (run (tableAt k place (headed s place)) s))
+
+-- it is there, and fine
+abbrev pub Stands : List ℕ → ℕ → ℕ → Type 0
+Stands s k place = (place ≡ 4294967295 → ⊥) → (place + header-length k ≤ length s) × (verdict (run (tableAt k place (headed s place)) s) ≡ verdicts.Fine)
+
+-- a provider's last table of a kind is kept at its place
+module _ (s : List ℕ) (n at k : ℕ) (v : verdict (run (elementsFrom n at) s) ≡ verdicts.Fine) (place : ℕ) (p : place ≡ placeOf (lastOf k (values (run (elementsFrom n at) s)))) where
+  found : (h : place ≡ 4294967295 → ⊥) → run (tableAt k place (headed s place)) s ≡ done (kept-here s n at k v place p h .0)
+  found h =
+      let t = kept-here s n at k v place p h in
+      ap₂ (λ o g. run (tableAt k o g) s) (sym (t .2)) (ap (headed s) (sym (t .2)) ∙ sym (t .3 .words)) ∙ t .3 .found
+
+  pub stands : Stands s k place
+  stands h = let t = kept-here s n at k v place p h in (rw (t .2) at (t .3 .fits), ap verdict (found h))
+
+  pub kept-at : length s ≤ 16777216 → lastOf k (values (run (elementsFrom n at) s)) ≡ keptAt s k place
+  kept-at l = go (eqb place 4294967295) refl
     where
-      go : (ts : List Table) → last ≡ ts → (tableParts l w ts ≡ []) × (walkedAll l w ts ≡ w)
-      go [] e = (refl, refl)
-      go (t ∷ ts) e =
-          let o = kept-one s n at k t ts v e in
-          let x = not-here k (t .offset) (o .1 .header) s t w (o .1 .found) l a b q in
-          rw (o .0, x .0, x .1) (refl, refl)
+      go : (b : Bool) → eqb place 4294967295 ≡ b
+          → lastOf k (values (run (elementsFrom n at) s)) ≡ choose b [] (only (run (tableAt k place (headed s place)) s))
+      go true e = kept-nowhere s n at k v place p l (eqb-true _ _ e)
+      go false e = let h = eqb-false place 4294967295 e in kept-here s n at k v place p h .1 ∙ sym (ap only (found h))
 
-  -- where its table stands, and where there is none
-  module _ (place : ℕ) (p : place ≡ placeOf last) where
-    pub kind-nowhere : length s ≤ 16777216 → place ≡ 4294967295 → (tableParts l w last ≡ []) × (walkedAll l w last ≡ w)
-    unfolding tableParts walkedAll
-    kind-nowhere g e = rw (kept-nowhere s n at k v place p g e) (refl, refl)
+-- a list has something of it: it is somewhere, and its kind has entries in the list
+abbrev pub hasAny : ℕ → ℕ → ℕ → Bool
+hasAny l k place = choose (eqb place 4294967295) false (hasEntries l k)
 
-    pub kind-fits : (place ≡ 4294967295 → ⊥) → place + header-length k ≤ length s
-    kind-fits e = let t = kept-here s n at k v place p e in rw (t .2) at (t .3 .fits)
+pub somewhere : (l k place : ℕ) → hasAny l k place ≡ true → (place ≡ 4294967295 → ⊥) × (hasEntries l k ≡ true)
+somewhere l k place e = go (eqb place 4294967295) refl e
+  where
+    go : (b : Bool) → eqb place 4294967295 ≡ b → choose b false (hasEntries l k) ≡ true → (place ≡ 4294967295 → ⊥) × (hasEntries l k ≡ true)
+    go true q e = absurd (let z : _≡_ {A = ℕ} 0 1 = cc in omega arith)
+    go false q e = (eqb-false place 4294967295 q, e)
 
-    pub kind-here : (place ≡ 4294967295 → ⊥) → (h : Header) → h ≡ record { size = le 4 s (place + 4); count = le 4 s (place + 8) }
-        → (verdict (run (tableAt k place h) s) ≡ verdicts.Fine)
-        × (walkedBy l w (run (tableAt k place h) s) ≡ walkedAll l w last)
-        × (partBy l w (run (tableAt k place h) s) ≡ tableParts l w last)
-    kind-here e h f =
-        let t = kept-here s n at k v place p e in
-        let x : h ≡ t .3 .header = f ∙ ap (λ o. record { size = le 4 s (o + 4); count = le 4 s (o + 8) }) (sym (t .2)) ∙ sym (t .3 .words) in
-        let r : run (tableAt k place h) s ≡ done (t .0) = ap₂ (λ o g. run (tableAt k o g) s) (sym (t .2)) x ∙ t .3 .found in (
-          ap verdict r,
-          ap (walkedBy l w) r ∙ sym (walkedAll-one l w (t .0)) ∙ ap (walkedAll l w) (sym (t .1)),
-          ap (partBy l w) r ∙ sym (tableParts-one l w (t .0)) ∙ ap (tableParts l w) (sym (t .1)),
-        )
+-- what it has: nothing, or its rows
+module _ (s : List ℕ) (l k place : ℕ) (w : Walk) where
+  abbrev last : List Table
+  last = keptAt s k place
+
+  module _ (h : place ≡ 4294967295 → ⊥) (v : verdict (run (tableAt k place (headed s place)) s) ≡ verdicts.Fine) where
+    one : (t : Table) × (run (tableAt k place (headed s place)) s ≡ done t) × (last ≡ t ∷ [])
+    one = let t = fine-value _ v in (t .0, t .1, rw (ne-eqb place 4294967295 h) (ap only (t .1)))
+
+    kind-nothing : 4 ≤ l → l ≤ 9 → hasEntries l k ≡ false → (tableParts l w last ≡ []) × (walkedAll l w last ≡ w)
+    kind-nothing a b q =
+        let x = not-here k place (headed s place) s (one .0) w (one .1) l a b q in
+        rw (one .2) (tableParts-one l w (one .0) ∙ x .0, walkedAll-one l w (one .0) ∙ x .1)
+
+    pub kind-here : (walkedBy l w (run (tableAt k place (headed s place)) s) ≡ walkedAll l w last)
+        × (partBy l w (run (tableAt k place (headed s place)) s) ≡ tableParts l w last)
+    kind-here = rw (one .2, one .1) (sym (walkedAll-one l w (one .0)), sym (tableParts-one l w (one .0)))
+
+  pub kind-none : 4 ≤ l → l ≤ 9 → Stands s k place → hasAny l k place ≡ false → (tableParts l w last ≡ []) × (walkedAll l w last ≡ w)
+  unfolding tableParts walkedAll
+  kind-none a b u e = go (eqb place 4294967295) refl e
+    where
+      go : (x : Bool) → eqb place 4294967295 ≡ x → choose x false (hasEntries l k) ≡ false → (tableParts l w last ≡ []) × (walkedAll l w last ≡ w)
+      go true q e = rw q (refl, refl)
+      go false q e = let h = eqb-false place 4294967295 q in kind-nothing h (u h .1) a b e
+
+-- what the walk and the area are once a list has what it has of a provider's last table of a kind
+abbrev pub Put : (es : List Element) → (l k : ℕ) → (w u : Walk) → (area area' : List ℕ) → Type 0
+Put es l k w u area area' = (u ≡ walkedAll l w (lastOf k es)) × (area' ≡ laid area (w .to) (tableParts l w (lastOf k es)))
+
+module _ (s : List ℕ) (n at l k : ℕ) (v : verdict (run (elementsFrom n at) s) ≡ verdicts.Fine) (place : ℕ)
+    (p : place ≡ placeOf (lastOf k (values (run (elementsFrom n at) s)))) (most : length s ≤ 16777216) (w u : Walk) (area area' : List ℕ) where
+  pub put-here : u ≡ walkedAll l w (keptAt s k place) → area' ≡ laid area (w .to) (tableParts l w (keptAt s k place))
+      → Put (values (run (elementsFrom n at) s)) l k w u area area'
+  put-here e f =
+      let q = sym (kept-at s n at k v place p most) in
+      (e ∙ ap (walkedAll l w) q, f ∙ ap (λ (ts : List Table). laid area (w .to) (tableParts l w ts)) q)
+
+  pub put-none : 4 ≤ l → l ≤ 9 → hasAny l k place ≡ false → u ≡ w → area' ≡ area → Put (values (run (elementsFrom n at) s)) l k w u area area'
+  unfolding laid
+  put-none a b h e f =
+      let x = kind-none s l k place w a b (stands s n at k v place p) h in
+      put-here (e ∙ sym (x .1)) (f ∙ sym (ap (laid area (w .to)) (x .0)))
 
 -- the next kind's table, and those of the kinds behind it
 module _ (es : List Element) (l left k : ℕ) (w : Walk) (h : 0 < left) where

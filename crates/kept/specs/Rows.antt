@@ -10,8 +10,7 @@ use lib.Dec.{eqb}
 use borrow.Author.Tests.{eqb-true, eqb-false, ne-eqb}
 use Rattle.blob.specs.Le.{le}
 use Rattle.blob.specs.declared.Refusal.{Refusal}
-use Rattle.blob.specs.declared.Verdict.the-variants as verdicts
-use Rattle.blob.specs.Reading.{Outcome, done, refused, choose, run, many, answer, verdict, values}
+use Rattle.blob.specs.Reading.{Outcome, done, refused, choose, run, many, answer}
 use Rattle.blob.specs.Laid.{flat}
 use Rattle.blob.specs.Laws.{never, same, length-flat}
 use Rattle.format.specs.Table.{EVNT, MAPS, TTBL, header-length, tableEnd}

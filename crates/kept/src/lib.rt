@@ -4,14 +4,14 @@ ghost use mathlib.Core.Bool.{true};
 ghost use Prim.Native.Nat.{_+_, _*_, _≤_};
 ghost use lib.Dec.{eqb};
 ghost use lib.ListN.{length};
-ghost use Rattle.blob.specs.Le.{le};
 ghost use Rattle.blob.specs.Reading.{run, verdict, values, choose};
 ghost use Rattle.blob.specs.Laid.{laid, flat};
 ghost use Rattle.format.specs.Table.{header-length, kindOf};
 ghost use Rattle.format.specs.Provider.{tableAt, elementsFrom};
-ghost use Rattle.format.specs.Lists.{lastOf, kept, unknowns, unknownWords};
+ghost use Rattle.format.specs.Lists.{kept, unknowns, unknownWords};
 ghost use Rattle.format.specs.Parts as parts;
 ghost use Rattle.kept.specs.Unknown.{wordsOf};
+ghost use Rattle.kept.specs.Kinds.{headed, keptAt, Stands, hasAny};
 ghost use Rattle.kept.specs.Rows.{holdsDefinitions, hasEntries, firstOf, trailingOf, partBy, walkedBy};
 use blob::Verdict;
 use format::Descriptor;
@@ -241,7 +241,7 @@ fn put_rows(b: &[u8], list: u32, kind: u32, at: usize, h: Header, w: Walk, area:
 // The header of a table that is known to be fine.
 fn header_of(b: &[u8], at: usize) -> Header
     requires { ⌜ at + 12 ≤ length (now b) ⌝ }
-    ensures { λ r. ⌜ r ≡ record { size = le 4 (now (b .entry)) (at + 4); count = le 4 (now (b .entry)) (at + 8) } ⌝ }
+    ensures { λ r. ⌜ r ≡ headed (now (b .entry)) at ⌝ }
 {
     Header {
         size: blob::word(b, at + 4),
@@ -249,30 +249,23 @@ fn header_of(b: &[u8], at: usize) -> Header
     }
 }
 
-// Stores what a list, 4 to 9, has of the table of a kind that is kept, if there is one.
-fn fill_kind(
-    b: &[u8],
-    start: usize,
-    n: u32,
-    list: u32,
-    kind: u32,
-    w: Walk,
-    area: &mut [u32],
-) -> Walk
-    requires { ⌜ (start + 8 * n ≤ length (now b)) × (length (now b) ≤ 16777216) ⌝ }
-    requires { ⌜ verdict (run (elementsFrom n start) (now b)) ≡ Verdict.Fine ⌝ }
-    requires { ⌜ (4 ≤ list) × (list ≤ 9) × (1 ≤ kind) × (kind ≤ 8) ⌝ }
-    requires { ⌜ parts.fits (parts.walkedAll list w (lastOf kind (values (run (elementsFrom n start) (now b))))) (length (now area)) ⌝ }
-    ensures { λ r. ⌜ r ≡ parts.walkedAll list w (lastOf kind (values (run (elementsFrom n start) (now (b .entry))))) ⌝ }
-    ensures { λ _. ⌜ now (area .exit) ≡ laid (now (area .entry)) (w .to) (parts.tableParts list w (lastOf kind (values (run (elementsFrom n start) (now (b .entry)))))) ⌝ }
+// Whether a list, 4 to 9, has anything of the table of a kind that is kept at a place.
+fn has_any(list: u32, kind: u32, place: u32) -> bool
+    ensures { λ r. ⌜ r ≡ hasAny list kind place ⌝ }
 {
-    if !has_entries(list, kind) {
-        return w;
-    }
-    let place = element::last_of(b, start, n, kind);
     if place == NONE {
-        return w;
+        return false;
     }
+    has_entries(list, kind)
+}
+
+// Stores what it has.
+fn put_kind(b: &[u8], list: u32, kind: u32, place: u32, w: Walk, area: &mut [u32]) -> Walk
+    requires { ⌜ (length (now b) ≤ 16777216) × (4 ≤ list) × (list ≤ 9) × (1 ≤ kind) × (kind ≤ 8) × (hasAny list kind place ≡ true) × Stands (now b) kind place ⌝ }
+    requires { ⌜ parts.fits (parts.walkedAll list w (keptAt (now b) kind place)) (length (now area)) ⌝ }
+    ensures { λ r. ⌜ r ≡ parts.walkedAll list w (keptAt (now (b .entry)) kind place) ⌝ }
+    ensures { λ _. ⌜ now (area .exit) ≡ laid (now (area .entry)) (w .to) (parts.tableParts list w (keptAt (now (b .entry)) kind place)) ⌝ }
+{
     let at = place as usize;
     put_rows(b, list, kind, at, header_of(b, at), w, area)
 }
@@ -286,11 +279,16 @@ pub fn fill_tables(b: &[u8], start: usize, n: u32, list: u32, from: Walk, area: 
     ensures { λ r. ⌜ r ≡ parts.walkedAll list from (kept (values (run (elementsFrom n start) (now (b .entry))))) ⌝ }
     ensures { λ _. ⌜ now (area .exit) ≡ laid (now (area .entry)) (from .to) (parts.tableParts list from (kept (values (run (elementsFrom n start) (now (b .entry)))))) ⌝ }
 {
+    let mut places = [NONE; 9];
+    element::place_tables(b, start, n, &mut places);
     let mut kind = 1;
     let mut left: u32 = 8;
     let mut w = from;
     while 0 < left {
-        w = fill_kind(b, start, n, list, kind, w, area);
+        let place = places[kind as usize];
+        if has_any(list, kind, place) {
+            w = put_kind(b, list, kind, place, w, area);
+        }
         kind += 1;
         left -= 1;
     }

@@ -2,7 +2,7 @@
 -- second blob that agrees with them on every byte that their reading rests on (`Longer` of the format's Block says which, and what is
 -- said of bytes 4 to 7) is accepted too: the same ten counts are answered, and the lent words hold the same ten lists, given room.
 use Prim.Native.Nat.{ℕ}
-use mathlib.Core.Path.{_≡_, refl, ap, sym, _∙_}
+use mathlib.Core.Path.{_≡_, refl, ap}
 use mathlib.Core.List.{List}
 use Rattle.blob.specs.Reading.{done}
 use Rattle.format.specs.Crim.{Crim}

@@ -1,20 +1,18 @@
 -- What is answered and held where the providers are fine: by the room that the lists have.
 use Prim.Native.Nat.{ℕ, _+_, _*_, _≤_}
-use mathlib.Core.Path.{_≡_, refl, ap, sym, _∙_}
+use mathlib.Core.Path.{_≡_, ap, sym, _∙_}
 use mathlib.Core.Bool.{true}
-use mathlib.Core.List.{List, map}
+use mathlib.Core.List.{List}
 use native.Mathlib.Omega.{arith}
 use lib.ListN.{length}
 use Rattle.blob.specs.declared.Refusal.{Refusal}
-use Rattle.blob.specs.declared.Verdict.{Verdict}
 use Rattle.blob.specs.declared.Verdict.the-variants as verdicts
-use Rattle.blob.specs.Reading.{Outcome, done, refused, run, verdict, values}
+use Rattle.blob.specs.Reading.{done, refused, run, verdict}
 use Rattle.blob.specs.Laws.{fine-done}
 use Rattle.format.specs.Provider.{Provider}
-use Rattle.format.specs.Crim.{Crim}
 use Rattle.format.specs.Lists.{lists}
 use Rattle.format.specs.Answer.{ten, moderate, with-room, counted}
-use Rattle.format.specs.Needs.{capped, needsAll, none, cappedCounts}
+use Rattle.format.specs.Needs.{needsAll, none, cappedCounts}
 use Rattle.format.specs.Needed.{needed}
 use Rattle.format.specs.Fits.{Few, few-uncapped}
 use Rattle.format.specs.declared.CrimHeader.{CrimHeader}

@@ -1,9 +1,8 @@
 -- The walk over the providers that are left: what they need, and what a list has of them.
-use Prim.Native.Nat.{ℕ, _+_, _-_, _*_, _≤_, _<_}
+use Prim.Native.Nat.{ℕ, _+_, _-_, _≤_, _<_}
 use mathlib.Core.Path.{_≡_, refl, ap, sym, _∙_, subst}
-use mathlib.Core.List.{List, [], _∷_}
+use mathlib.Core.List.{List, []}
 use native.Mathlib.Omega.{arith}
-use lib.ListN.{length}
 use Rattle.blob.specs.declared.Refusal.{Refusal}
 use Rattle.blob.specs.declared.Verdict.the-variants as verdicts
 use Rattle.blob.specs.Reading.{Outcome, done, refused, run, many, answer, verdict, values}
@@ -14,12 +13,11 @@ use Rattle.format.specs.Provider.{Provider}
 use Rattle.format.specs.Crim.{describedAt}
 use Rattle.format.specs.Needs.{capped, needsOf, plus, none, modest, needsAll, providerRead, providersRead}
 use Rattle.format.specs.Parts.{fits, part, passed, parts, passedAll}
-use Rattle.format.specs.Grows.{passedAll-grows, passed-to}
+use Rattle.format.specs.Grows.{passedAll-grows, passed-to, fits-before}
 use Rattle.format.specs.declared.Counts.{Counts}
 use Rattle.format.specs.declared.Walk.{Walk}
 use Rattle.format.specs.declared.NeedsRead.{NeedsRead}
 use Rattle.format.specs.declared.NeedsRead.the-variants as needed
-use Rattle.kept.specs.Filled.{fits-before}
 use Rattle.part.specs.Provided.{partBy, passedBy}
 
 -- what those that are left need, with those before

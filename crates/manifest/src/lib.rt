@@ -1,8 +1,9 @@
 // The whole block: the CRIM walk over providers, what the lists need, the ten areas, and `read`.
 ghost use mathlib.Core.Path.{_≡_};
 ghost use mathlib.Core.Bool.{true};
+ghost use mathlib.Core.List.{[]};
 ghost use Prim.Native.Nat.{_+_, _*_, _-_, _≤_};
-ghost use lib.ListN.{length, getD};
+ghost use lib.ListN.{length};
 ghost use Rattle.blob.specs.Reading.{run, refused, verdict};
 ghost use Rattle.blob.specs.Laid.{laid};
 ghost use Rattle.format.specs.Answer as spec;
@@ -30,7 +31,7 @@ pub struct Position {
 
 impl Position {
     // Before the first of n providers.
-    pub fn first(n: u32) -> Position
+    fn first(n: u32) -> Position
         ensures { λ r. ⌜ (r .at ≡ 16) × (r .left ≡ n) × (r .needs ≡ need.none) ⌝ }
     {
         Position {
@@ -41,7 +42,7 @@ impl Position {
     }
 
     // Behind a provider that needs so much.
-    pub fn next(self, needs: Counts) -> Position
+    fn next(self, needs: Counts) -> Position
         requires { ⌜ (self .at ≤ 16777216) × (1 ≤ self .left) × need.modest (self .needs) ⌝ }
         ensures { λ r. ⌜ (r .at ≡ self .at + 20) × (r .left ≡ self .left - 1) × (r .needs ≡ need.plus (self .needs) needs) ⌝ }
     {
@@ -105,7 +106,8 @@ fn fill(b: &[u8], n: u32, list: u32, area: &mut [u32])
     }
 }
 
-// Stores a list in its area, a part of the lent words that starts in their middle; hands back where it ends.
+// Stores a list in its area, a part of the lent words that starts in their middle; hands back where it ends. A list that needs nothing is
+// not walked over.
 fn fill_area(
     b: &[u8],
     n: u32,
@@ -114,37 +116,50 @@ fn fill_area(
     from: usize,
     capacity: u32,
     width: u32,
+    need: u32,
 ) -> usize
     requires { ⌜ (16 + 20 * n ≤ length (now b)) × (length (now b) ≤ 16777216) ⌝ }
     requires { ⌜ verdict (run (providers n) (now b)) ≡ Verdict.Fine ⌝ }
     requires { ⌜ (1 ≤ list) × (list ≤ 10) × (width ≤ 16) × (from + capacity * width ≤ length (now words)) ⌝ }
     requires { ⌜ parts.fits (parts.passedAll list parts.start (providersIn n (now b))) (capacity * width) ⌝ }
+    requires { ⌜ (need ≡ 0 → parts.parts list parts.start (providersIn n (now b)) ≡ []) ⌝ }
     ensures { λ r. ⌜ r ≡ from + capacity * width ⌝ }
     ensures { λ _. ⌜ now (words .exit) ≡ laid (now (words .entry)) from (parts.parts list parts.start (providersIn n (now (b .entry)))) ⌝ }
 {
     let to = from + counts::area(capacity, width);
+    if need == 0 {
+        return to;
+    }
     fill(b, n, list, &mut words[from..to]);
     to
 }
 
-// Stores the ten lists, each in its area.
-fn fill_areas(b: &[u8], n: u32, c: Counts, words: &mut [u32])
+// Stores the ten lists, each in its area, which starts where the one before ends.
+fn fill_areas(b: &[u8], n: u32, needs: Counts, capacities: Counts, words: &mut [u32])
     requires { ⌜ (16 + 20 * n ≤ length (now b)) × (length (now b) ≤ 16777216) ⌝ }
     requires { ⌜ verdict (run (providers n) (now b)) ≡ Verdict.Fine ⌝ }
-    requires { ⌜ spec.lent-enough c (now words) ≡ true ⌝ }
-    requires { ⌜ roomy c (providersIn n (now b)) ⌝ }
-    ensures { λ _. ⌜ now (words .exit) ≡ spec.filled (now (words .entry)) 0 (spec.ten c) spec.widths (lists (providersIn n (now (b .entry)))) ⌝ }
+    requires { ⌜ (needs ≡ need.needsAll need.none (providersIn n (now b))) × (spec.lent-enough capacities (now words) ≡ true) ⌝ }
+    requires { ⌜ roomy capacities (providersIn n (now b)) ⌝ }
+    ensures { λ _. ⌜ now (words .exit) ≡ spec.filled (now (words .entry)) 0 (spec.ten capacities) spec.widths (lists (providersIn n (now (b .entry)))) ⌝ }
 {
-    let to = fill_area(b, n, 1, words, 0, c.providers, 9);
-    let to = fill_area(b, n, 2, words, to, c.descriptors, 3);
-    let to = fill_area(b, n, 3, words, to, c.unknown2, 1);
-    let to = fill_area(b, n, 4, words, to, c.tables, 9);
-    let to = fill_area(b, n, 5, words, to, c.definitions, 12);
-    let to = fill_area(b, n, 6, words, to, c.events, 16);
-    let to = fill_area(b, n, 7, words, to, c.maps, 11);
-    let to = fill_area(b, n, 8, words, to, c.entries, 2);
-    let to = fill_area(b, n, 9, words, to, c.templates, 12);
-    let _ = fill_area(b, n, 10, words, to, c.unknown, 4);
+    let rooms = counts::ten(capacities);
+    let widths = counts::widths();
+    let wanted = counts::ten(needs);
+    let mut i = 0;
+    let mut to = 0;
+    while i < 10 {
+        to = fill_area(
+            b,
+            n,
+            i as u32 + 1,
+            words,
+            to,
+            rooms[i],
+            widths[i],
+            wanted[i],
+        );
+        i += 1;
+    }
 }
 
 // The answer of an accepted block that needs so much.
@@ -199,7 +214,7 @@ fn store(b: &[u8], h: CrimHeader, needs: Counts, words: &mut [u32], capacities: 
     match counts::room(capacities, needs) {
         Verdict::Refused(r) => refuse(r),
         Verdict::Fine => {
-            fill_areas(b, h.count, capacities, words);
+            fill_areas(b, h.count, needs, capacities, words);
             accept(h, needs)
         }
     }

@@ -8,7 +8,7 @@ ghost use Rattle.blob.specs.Reading.{run, verdict, values, choose};
 ghost use Rattle.format.specs.Field.{VMAP-map-string};
 ghost use Rattle.format.specs.Region.{until};
 ghost use Rattle.format.specs.Map.{valueMapAt, otherMap, mapAt, mapsAt, mapRead};
-ghost use Rattle.format.specs.Needs.{capped, entryCount, mapsRead};
+ghost use Rattle.format.specs.Needs.{entryCount, mapsRead};
 ghost use Rattle.format.specs.Lists.{mapWords, mapEntryWords, mapList};
 ghost use Rattle.format.specs.Name as name;
 ghost use Rattle.format.specs.Name.{nameAt};
@@ -141,7 +141,7 @@ fn other_map(end: usize, at: usize, signature: u32) -> Map
 }
 
 // The map at a place, in a region that ends at `end`.
-pub fn map_at(b: &[u8], end: usize, at: usize) -> MapRead
+fn map_at(b: &[u8], end: usize, at: usize) -> MapRead
     requires { ⌜ (end ≤ length (now b)) × (length (now b) ≤ 16777216) ⌝ }
     ensures { λ r. ⌜ r ≡ mapRead (run (mapAt (until end) at) (now (b .entry))) ⌝ }
 {

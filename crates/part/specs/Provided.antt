@@ -5,26 +5,24 @@ use mathlib.Core.List.{List, [], _∷_}
 use native.Mathlib.Omega.{arith}
 use native.Mathlib.Nat.{add-zero}
 use lib.ListN.{length}
-use lib.Dec.{eqb}
 use borrow.Rule.Slice.PartMut.{midOf, putMid}
 use borrow.Author.Tests.{ne-eqb}
 use Rattle.blob.specs.Le.{le}
 use Rattle.blob.specs.declared.Verdict.the-variants as verdicts
 use Rattle.blob.specs.Reading.{Outcome, done, run, number, many, each, answer, verdict, values}
 use Rattle.blob.specs.Laid.{laid, flat, laid-area}
-use Rattle.blob.specs.Laws.{same, fine-value, run-after, many-count, length-flat}
+use Rattle.blob.specs.Laws.{same, fine-value, run-after, many-count}
 use Rattle.blob.specs.Asks.{Finds, finds-got, finds-room, finds-demand, finds-next}
 use Rattle.format.specs.Definition.{guidAt, step}
 use Rattle.format.specs.Provider.{Provider, wevtAt, descriptorAt, elementAt, elementsFrom}
 use Rattle.format.specs.Crim.{describedAt}
 use Rattle.format.specs.Lists.{kept, unknowns, descriptorWords, unknown2Words, unknownWords}
 use Rattle.format.specs.Parts.{fits, moved, next, part, passed, tableParts, walkedAll}
-use Rattle.format.specs.Grows.{Grows, passed-grows, passed-to}
+use Rattle.format.specs.Grows.{passed-grows, passed-to, fits-before}
 use Rattle.format.specs.Described.{Described, described}
 use Rattle.format.specs.declared.Guid.{Guid}
 use Rattle.format.specs.declared.Wevt.{Wevt}
 use Rattle.format.specs.declared.Walk.{Walk}
-use Rattle.kept.specs.Filled.{fits-before}
 
 abbrev pub partBy : ℕ → Walk → Outcome Provider → List ℕ
 partBy l w o = answer (part l w) (λ r. []) o

@@ -29,7 +29,7 @@ use format::field::WEVT_UNKNOWN2_ARRAY;
 const WEVT: u32 = 0x54564557;
 
 // The header of the WEVT at a place.
-pub fn wevt_at(b: &[u8], at: usize) -> WevtRead
+fn wevt_at(b: &[u8], at: usize) -> WevtRead
     ensures { λ r. ⌜ r ≡ spec.wevtRead (run (spec.wevtAt at) (now (b .entry))) ⌝ }
 {
     if b.len() < at {
@@ -51,7 +51,7 @@ pub fn wevt_at(b: &[u8], at: usize) -> WevtRead
 }
 
 // The descriptor at a place, with its element's signature.
-pub fn descriptor_at(b: &[u8], at: usize) -> DescriptorRead
+fn descriptor_at(b: &[u8], at: usize) -> DescriptorRead
     requires { ⌜ at + 8 ≤ length (now b) ⌝ }
     ensures { λ r. ⌜ r ≡ spec.descriptorRead (run (spec.descriptorAt at) (now (b .entry))) ⌝ }
 {
@@ -72,7 +72,7 @@ pub fn descriptor_at(b: &[u8], at: usize) -> DescriptorRead
 }
 
 // Whether n descriptors stand one after another from a place on.
-pub fn check_descriptors(b: &[u8], start: usize, n: u32) -> Verdict
+fn check_descriptors(b: &[u8], start: usize, n: u32) -> Verdict
     requires { ⌜ start + 8 * n ≤ length (now b) ⌝ }
     ensures { λ r. ⌜ r ≡ verdict (run (many spec.descriptorAt (step 8) n start) (now (b .entry))) ⌝ }
 {

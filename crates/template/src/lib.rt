@@ -1,12 +1,10 @@
 // TTBL's templates: the reader of a TEMP, the check of a table's TEMPs, and the filler of list 9.
 ghost use mathlib.Core.Path.{_≡_};
-ghost use mathlib.Core.List.{[], _∷_};
 ghost use Prim.Native.Nat.{_+_, _-_, _*_, _≤_};
 ghost use lib.ListN.{length};
-ghost use Rattle.blob.specs.Reading.{run, done, many, verdict, values};
+ghost use Rattle.blob.specs.Reading.{run, many, verdict, values};
 ghost use Rattle.blob.specs.Laid.{laid, flat};
 ghost use Rattle.format.specs.Region.{until};
-ghost use Rattle.format.specs.Definition.{guidAt};
 ghost use Rattle.format.specs.Template.{itemsOf, itemsAt, templateFields, templateAt, templateRead, next, templatesAt};
 ghost use Rattle.format.specs.Lists.{templateWords};
 ghost use Rattle.template.specs.Temp.{itemsRead};
@@ -33,7 +31,7 @@ use words::put_four;
 const TEMP: u32 = 0x504D4554;
 
 // Where a TEMP's items stand, from the TEMP's place, its size and its items offset.
-pub fn items_of(temp: BlobPlace, size: u32, offset: BlobPlace) -> Items
+fn items_of(temp: BlobPlace, size: u32, offset: BlobPlace) -> Items
     ensures { λ r. ⌜ r ≡ itemsOf temp size offset ⌝ }
 {
     if offset.0 == 0 {
@@ -120,7 +118,7 @@ fn fields_at(b: &[u8], at: usize, size: u32) -> TemplateRead
 }
 
 // The TEMP at a place of a region that ends at another.
-pub fn template_at(b: &[u8], end: usize, at: usize) -> TemplateRead
+fn template_at(b: &[u8], end: usize, at: usize) -> TemplateRead
     requires { ⌜ (at ≤ end) × (end ≤ length (now b)) × (length (now b) ≤ 16777216) ⌝ }
     ensures { λ r. ⌜ r ≡ templateRead (run (templateAt (until end) at) (now (b .entry))) ⌝ }
 {

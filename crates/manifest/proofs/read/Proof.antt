@@ -5,7 +5,7 @@ use lib.ListN.{length-take}
 use Rattle.blob.specs.Reading.{run}
 use Rattle.format.specs.Crim.{header}
 use Rattle.format.specs.Answer.{answer, held}
-use Rattle.kept.specs.Kinds.{not-true, not-false}
+use borrow.Author.Tests.{not-true, not-false}
 use Rattle.manifest.specs.Read.{too-long, unlent, no-header, headed, is-header, no-header-read, sized}
 use borrow.Author.Needs.{needs}
 use Rattle.manifest.proofs.read.Statement.{statement}

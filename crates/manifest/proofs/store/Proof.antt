@@ -26,7 +26,7 @@ fill-areas-requires c κs =
     let k = c .before in
     let p = k .before .before in
     let o = p .before .before .before in
-    (o .pre .0, (o .pre .1 .0, (o .pre .1 .1 .1, store-roomy (o .args .h) (o .args .b .now) (o .args .capacities) (o .args .needs) (o .pre .0 .0) (o .pre .1 .0) (o .pre .1 .1 .0) (lent-both (o .args .capacities) (o .args .words .now) (o .pre .1 .1 .1) .0) (sym (k .enum-told .given .1) ∙ p .room .ensures))))
+    (o .pre .0, (o .pre .1 .0, (o .pre .1 .1, store-roomy (o .args .h) (o .args .b .now) (o .args .capacities) (o .args .needs) (o .pre .0 .0) (o .pre .1 .0) (o .pre .1 .1 .0) (lent-both (o .args .capacities) (o .args .words .now) (o .pre .1 .1 .1) .0) (sym (k .enum-told .given .1) ∙ p .room .ensures))))
 
 accept-requires : tie.Need-accept-requires
 accept-requires c κs = search needs

@@ -1,0 +1,84 @@
+-- Where a provider's elements stand, by kind: one place for each, of two of a kind the last one's.
+use Prim.Native.Nat.{ℕ, zero, suc, _+_, _-_, _≤_, _<_}
+use mathlib.Core.Path.{_≡_, refl, ap, sym, _∙_}
+use mathlib.Core.Bool.{Bool, true, false}
+use mathlib.Core.List.{List, [], _∷_}
+use native.Mathlib.Omega.{arith}
+use lib.ListN.{length, getD, set, replicate, length-set, length-replicate, getD-replicate}
+use lib.Seq.{getD-set-same, getD-set-other}
+use lib.Dec.{eqb}
+use borrow.Author.Tests.{eqb-true, eqb-false}
+use Rattle.blob.specs.declared.Verdict.the-variants as verdicts
+use Rattle.blob.specs.Reading.{choose, run, done, verdict, values}
+use Rattle.format.specs.Table.{kindOf}
+use Rattle.format.specs.Provider.{Table, Element, table, unknown, descriptorAt, elementAt, elementsFrom}
+use Rattle.format.specs.Lists.{lastOf}
+use Rattle.format.specs.Needs.{placeOf}
+use Rattle.format.specs.declared.Descriptor.{Descriptor}
+use Rattle.element.specs.Tables.{kind-most, is-unknown, is-table}
+use Rattle.element.specs.Elements.{lastOr, last-table, from-none, next-element, from-values}
+
+-- those of no known kind have the place of kind 0
+unfoldable pub placed : List ℕ → List Element → List ℕ
+placed ps [] = ps
+placed ps (table t ∷ es) = placed (set ps (t .kind) (t .offset)) es
+placed ps (unknown u ∷ es) = placed (set ps 0 (u .offset)) es
+
+pub length-placed : (ps : List ℕ) (es : List Element) → length (placed ps es) ≡ length ps
+unfolding placed
+length-placed ps [] = refl
+length-placed ps (table t ∷ es) = length-placed (set ps (t .kind) (t .offset)) es ∙ simp length-set
+length-placed ps (unknown u ∷ es) = length-placed (set ps 0 (u .offset)) es ∙ simp length-set
+
+module _ (k : ℕ) where
+  stored : (ps : List ℕ) (i o : ℕ) → k < length ps → getD (set ps i o) k 0 ≡ choose (eqb i k) o (getD ps k 0)
+  stored ps i o h = go (eqb i k) refl
+    where
+      go : (b : Bool) → eqb i k ≡ b → getD (set ps i o) k 0 ≡ choose b o (getD ps k 0)
+      go true e = let q = eqb-true i k e in rw q (getD-set-same ps k o 0 h)
+      go false e = getD-set-other ps i k o 0 (λ q. eqb-false i k e (sym q))
+
+  -- the place of a kind is that of its last table; where there is none, the place before
+  pub placed-last : 1 ≤ k → (ps : List ℕ) (es : List Element) → k < length ps → getD (placed ps es) k 0 ≡ lastOr (λ t. t .offset) (getD ps k 0) (lastOf k es)
+  unfolding placed lastOf
+  placed-last one ps [] h = refl
+  placed-last one ps (table t ∷ es) h =
+      placed-last one (set ps (t .kind) (t .offset)) es (simp length-set h)
+      ∙ ap (λ p. lastOr (λ t. t .offset) p (lastOf k es)) (stored ps (t .kind) (t .offset) h)
+      ∙ sym (last-table (λ t. t .offset) (getD ps k 0) k t es)
+  placed-last one ps (unknown u ∷ es) h =
+      placed-last one (set ps 0 (u .offset)) es (simp length-set h)
+      ∙ ap (λ p. lastOr (λ t. t .offset) p (lastOf k es)) (getD-set-other ps 0 k (u .offset) 0 (λ q. omega arith))
+
+-- where no place was known before
+module _ (s : List ℕ) (n at : ℕ) (ps : List ℕ) (e : ps ≡ placed (replicate 9 4294967295) (values (run (elementsFrom n at) s))) where
+  pub kind-place : {k : ℕ} → 1 ≤ k → k ≤ 8 → getD ps k 0 ≡ placeOf (lastOf k (values (run (elementsFrom n at) s)))
+  kind-place {k} one most =
+      let none = replicate {A = ℕ} 9 4294967295 in
+      ap (λ qs. getD qs k 0) e
+      ∙ placed-last k one none _ (omega (arith, length-replicate {A = ℕ} 9 4294967295))
+      ∙ go (lastOf k _) (getD none k 0) (getD-replicate {A = ℕ} 9 k 4294967295 0 (omega arith))
+    where
+      go : (ts : List Table) (p : ℕ) → p ≡ 4294967295 → lastOr (λ t. t .offset) p ts ≡ placeOf ts
+      go [] p e = e
+      go (t ∷ ts) p e = refl
+
+-- the next element takes its kind's place
+placed-one : (s : List ℕ) (d : Descriptor) (e : Element) → run (elementAt d) s ≡ done e → (ps : List ℕ) (es : List Element) (k : ℕ) → kindOf (d .signature) ≡ k
+    → placed ps (e ∷ es) ≡ placed (set ps k (d .offset)) es
+unfolding placed elementAt
+placed-one s d e i ps es zero p = rw (is-unknown s (d .offset) e (rw p at i) .0)
+placed-one s d e i ps es (suc n) p =
+    let t = is-table s (suc n) (d .offset) e (omega arith) (rw p at (kind-most (d .signature))) (rw p at i) in
+    rw (t .1, t .3 .kind, t .2)
+
+module _ (s : List ℕ) (left at : ℕ) (h : 0 < left) (d : Descriptor) (found : run (descriptorAt at) s ≡ done d) (v : verdict (run (elementsFrom left at) s) ≡ verdicts.Fine) where
+  pub placed-more : (ps : List ℕ) (k : ℕ) → k ≡ kindOf (d .signature)
+      → placed ps (values (run (elementsFrom left at) s)) ≡ placed (set ps k (d .offset)) (values (run (elementsFrom (left - 1) (at + 8)) s))
+  placed-more ps k q =
+      let e = next-element s left at h d found v in
+      ap (placed ps) (from-values s left at h d found v) ∙ placed-one s d (e .0) (e .1) ps _ k (sym q)
+
+pub placed-none : (s : List ℕ) (left at : ℕ) (ps : List ℕ) → left ≤ 0 → placed ps (values (run (elementsFrom left at) s)) ≡ ps
+unfolding placed
+placed-none s left at ps h = ap (λ o. placed ps (values o)) (from-none s left at h)
