@@ -80,7 +80,7 @@ moderate-each [] h = refl
 moderate-each (c ∷ cs) h = rw (le-leb c 65536 (h .0)) (moderate-each cs (h .1))
 
 -- an accepted reading read its bytes as a CRIM block
-reading-crim : (s words : List ℕ) (capacities : Counts) (c : Crim) → reading s words capacities ≡ done c → crim s ≡ done c
+pub reading-crim : (s words : List ℕ) (capacities : Counts) (c : Crim) → reading s words capacities ≡ done c → crim s ≡ done c
 unfolding reading
 reading-crim s words capacities c e =
     let o = choose-done (leb (length s) 16777216) _ _ c e .1 in

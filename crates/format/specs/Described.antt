@@ -9,7 +9,6 @@ use Rattle.blob.specs.Asks.{Finds, finds-got, finds-room, finds-bind, finds-nex
 use Rattle.format.specs.Definition.{guidAt, step}
 use Rattle.format.specs.Provider.{Provider, wevtAt, descriptorAt, elementAt, providerAt}
 use Rattle.format.specs.Crim.{describedAt}
-use Rattle.format.specs.declared.Guid.{Guid}
 use Rattle.format.specs.declared.Wevt.{Wevt}
 
 pub record Described (at : ℕ) (s : List ℕ) (p : Provider) : Type 0 where

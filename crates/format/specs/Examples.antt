@@ -58,6 +58,10 @@ words kind =
     ++ event 0 ++ event 76 ++ event 76
     ++ temp 50 5 ++ temp 76 8 ++ temp 76 9
 
+-- the same with a map, for which there is no room
+abbrev one-map : Counts
+one-map = record { providers = some .providers; descriptors = 0; unknown2 = 0; tables = some .tables; definitions = 0; events = some .events; maps = 1; entries = 0; templates = some .templates; unknown = 0 }
+
 abbrev key : ℕ → Key
 key version = record { guid = record { a = 1; b = 2; c = 3; d = 4 }; identifier = 10; version = version; channel = 2; level = 3; opcode = 4; task = 5; low = 6; high = 7 }
 
@@ -81,11 +85,15 @@ past-the-list : byOffset (words 8) some some 4 0 76 ≡ template.Refused (own 10
 unfolding byOffset moderate areas counts-fit
 past-the-list = refl
 
+over-capacity : byOffset (words 8) some one-map 0 3 76 ≡ template.Refused (own 10)
+unfolding byOffset moderate areas counts-fit
+over-capacity = refl
+
 too-few-words : byOffset [] some some 4 0 76 ≡ template.Refused (own 8)
 unfolding byOffset moderate areas
 too-few-words = refl
 
--- by key: the GUID of the lowest template, once; nothing for another key; 9 where it does not fit; 10 before 9 for a kind that is none
+-- by key: the GUID of the lowest template, once; nothing for another key; 9 where it does not fit; 10 for a kind that is none; 10 before 9 for a count over its capacity
 given-once : lookup 8 1 (replicate 5 0) ≡ done ((8 ∷ 8 ∷ 8 ∷ 8 ∷ []) ∷ [])
 unfolding byKey guidsOf moderate areas counts-fit entriesFrom position tablesFit select alike among once flat
 given-once = refl
@@ -105,6 +113,10 @@ no-room = refl
 no-kind : lookup 9 1 [] ≡ refused (own 10)
 unfolding byKey guidsOf moderate areas counts-fit entriesFrom position tablesFit select alike among once flat
 no-kind = refl
+
+ten-before-nine : byKey (words 8) some one-map (key 1) [] ≡ refused (own 10)
+unfolding byKey guidsOf moderate areas counts-fit entriesFrom position tablesFit select alike among once flat
+ten-before-nine = refl
 
 -- a table entry with an empty range, of a kind and of none
 eighth-kind : tableFits some (0 ∷ 8 ∷ replicate 7 0) ≡ true

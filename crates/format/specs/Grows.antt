@@ -16,7 +16,7 @@ use Rattle.blob.specs.Laws.{length-flat}
 use Rattle.format.specs.Provider.{Rows, definitions, events, maps, templates, Table, Provider}
 use Rattle.format.specs.Lists.{descriptorWords, unknown2Words, unknownWords, kept, unknowns, written, mapsIn}
 use Rattle.format.specs.Needs.{entryCount, entriesAll, writtenAll}
-use Rattle.format.specs.Parts.{walked, walkedAll, tablePart, tableParts, by-list, next, part, passed, parts, passedAll}
+use Rattle.format.specs.Parts.{fits, walked, walkedAll, tablePart, tableParts, by-list, next, part, passed, parts, passedAll}
 use Rattle.format.specs.declared.Written.{Written}
 use Rattle.format.specs.declared.Walk.{Walk}
 
@@ -179,3 +179,8 @@ module _ (l : ℕ) (w : Walk) where
 
   pub passedAll-grows : (ps : List Provider) → Grows w (passedAll l w ps)
   passedAll-grows ps = rw (passedAll-ahead l w ps) (ahead-grows l w _ (flat (λ p. kept (p .elements)) ps) (parts l w ps) (omega arith))
+
+-- what fits behind some more fits before it
+pub fits-before : (v w : Walk) (n : ℕ) → Grows v w → fits w n → fits v n
+fits-before v w n g f =
+    (omega arith, omega arith, omega arith, omega (arith, g .written), omega (arith, g .written), omega (arith, g .written), omega (arith, g .written), omega (arith, g .written))

@@ -24,6 +24,7 @@ pub mod Parts
 pub mod Cases
 pub mod Examples
 pub mod Order
+pub mod Codes
 pub mod Determined
 pub mod Said
 pub mod Ends

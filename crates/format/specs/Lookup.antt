@@ -82,9 +82,9 @@ once seen (g ∷ gs) = choose (among g seen) (once seen gs) (g ∷ once (g ∷ s
 abbrev pub listOf : ℕ → ℕ
 listOf k = getD (0 ∷ 5 ∷ 6 ∷ 5 ∷ 5 ∷ 7 ∷ 5 ∷ 5 ∷ 9 ∷ []) k 0
 
--- "10 | lookup over lists that don't fit together | 0; 0, 0" (the answer). "10 if any table entry names a missing provider or a range past its list, or its kind isn't 1 to 8, and for nothing else but such
--- counts." A table entry's words: provider
--- number, kind, .., first entry and count at 5 and 6
+-- "10 | lookup over lists that don't fit together | 0; 0, 0" (the answer). "10 if any table entry names a missing provider or a range
+-- past its list, or its kind isn't 1 to 8, and for nothing else but such counts." A table entry's words: provider number, kind, ..,
+-- first entry and count at 5 and 6
 abbrev pub tableFits : Counts → Entry → Bool
 tableFits counts t =
     ltb (wordOf 0 t) (counts .providers) && (leb 1 (wordOf 1 t) && (leb (wordOf 1 t) 8

@@ -1,7 +1,6 @@
 -- What a list has of a table, of a provider and of some providers, as it is filled: from a walk that says how many were before.
 -- (Listed shows that this is what Lists says.)
 use Prim.Native.Nat.{ℕ, _+_, _*_, _≤_}
-use mathlib.Core.Bool.{Bool}
 use mathlib.Core.List.{List, [], _∷_, _++_}
 use lib.ListN.{length}
 use lib.Dec.{eqb}

@@ -20,8 +20,8 @@ returns-2 : tie.Need-returns-2
 unfolding called
 returns-2 c = simp (eq-eqb _ _ (c .before .before .if1 .left), ne-eqb _ _ (c .before .if2 .taken)) (c .refusal2 .ensures, misfit-keeps _ _ (c .before .before .before .before .before .before .args .blob .now))
 
-capacity-requires : tie.Need-capacity-requires
-capacity-requires c κs = search needs
+for-lists-requires : tie.Need-for-lists-requires
+for-lists-requires c κs = search needs
 
 read-requires : tie.Need-read-requires
 read-requires c κs = search needs
@@ -34,7 +34,7 @@ unfolding called
 returns-3 c =
     let r = c .before .before in
     let i = r .before .before .before in
-    let k = r .before .capacity .ensures in
+    let k = r .before .for-lists .ensures in
     simp (eq-eqb _ _ (i .before .if1 .left), eq-eqb _ _ (i .if2 .left)) (rw k at (r .read .ensures .0), rw k at (r .read .ensures .1))
 
 pub read-spec : {M : Type 1} → statement M
@@ -45,7 +45,7 @@ read-spec =
     returns
     refusal-requires-2
     returns-2
-    capacity-requires
+    for-lists-requires
     read-requires
     same-length
     returns-3)

@@ -1,0 +1,41 @@
+-- What the functions that render a listing do to the bytes that are lent them.
+use Prim.Native.Nat.{ℕ, zero, suc, _+_}
+use mathlib.Core.Path.{_≡_}
+use mathlib.Core.List.{List, [], _∷_, _++_}
+use lib.ListN.{length, getD}
+use Rattle.blob.specs.Laid.{laid}
+use Rattle.format.specs.Listing.{Piece, says, number}
+use Rattle.listing.specs.Rendered.{decimal, newline, line, rendered}
+use Rattle.format.specs.declared.Answer.{Answer}
+
+-- bytes put at a place: where they end, and what the lent bytes hold then
+pub record Put (before : List ℕ) (at : ℕ) (bytes : List ℕ) (end : ℕ) (after : List ℕ) : Type 0 where
+  pub ends : end ≡ at + length bytes
+  pub holds : after ≡ laid before at bytes
+
+-- a line of four numbers, each behind a text
+abbrev pub fourfold : (a : List ℕ) (i : ℕ) (b : List ℕ) (j : ℕ) (c : List ℕ) (k : ℕ) (d : List ℕ) (l : ℕ) → List ℕ
+fourfold a i b j c k d l = (a ++ decimal i) ++ ((b ++ decimal j) ++ ((c ++ decimal k) ++ ((d ++ decimal l) ++ (newline ∷ []))))
+
+-- the lines of a refusal and of an accepted block
+abbrev pub refusalLine : ℕ → ℕ → List Piece
+refusalLine code place = says "refused" ∷ number code ∷ number place ∷ []
+
+abbrev pub blockLine : ℕ → ℕ → ℕ → ℕ → List Piece
+blockLine size providers events templates =
+    says "crim" ∷ number size ∷ says "providers" ∷ number providers ∷ says "events" ∷ number events ∷ says "templates" ∷ number templates ∷ []
+
+-- the line of the template entry that stands at a place of the words, and those of n entries from a place on
+abbrev pub lineAt : List ℕ → ℕ → List Piece
+lineAt words at =
+    says "template" ∷ number (getD words at 0) ∷ says "size" ∷ number (getD words (at + 1) 0)
+    ∷ says "binxml" ∷ number (getD words (at + 10) 0) ∷ number (getD words (at + 11) 0) ∷ []
+
+unfoldable pub linesFrom : List ℕ → ℕ → ℕ → List (List Piece)
+linesFrom words zero at = []
+linesFrom words (suc n) at = lineAt words at ∷ linesFrom words n (at + 12)
+
+-- all lines of an accepted block, by its answer and the words that it was read into
+abbrev pub acceptedText : Answer → List ℕ → List ℕ
+acceptedText a words =
+    line (blockLine (a .first) (a .counts .providers) (a .counts .events) (a .counts .templates)) ++ rendered (linesFrom words (a .counts .templates) 4032)
