@@ -14,6 +14,14 @@ impl Guid {
         }
         Guid(bytes)
     }
+
+    pub(crate) fn to_words(self) -> [u32; 4] {
+        let mut words = [0; 4];
+        for (word, part) in words.iter_mut().zip(self.0.chunks_exact(4)) {
+            *word = u32::from_le_bytes([part[0], part[1], part[2], part[3]]);
+        }
+        words
+    }
 }
 
 /// The usual form: three little-endian numbers, then bytes in order.

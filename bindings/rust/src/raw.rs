@@ -1,8 +1,22 @@
-//! The library's own function over slices, with nothing added: for those who lend the words
+//! The library's own functions over slices, with nothing added: for those who lend the words
 //! themselves and read them as they stand.
 
 /// How many numbers an answer has: code, field, place, first, second, ten counts.
 pub const NUMBERS: usize = 15;
+
+/// The same of `ducat_template_at`: code, place, first, second, whether a template is found (0 or
+/// 1), its number.
+pub const TEMPLATE_NUMBERS: usize = 6;
+
+/// The same of `ducat_templates_for`: code, place, first, second, how many GUIDs are given.
+pub const GUIDS_NUMBERS: usize = 5;
+
+/// The words of a key: GUID (4), event id, version, channel, level, opcode, task, keywords low,
+/// high.
+pub const KEY_WORDS: usize = 12;
+
+/// The words of a GUID.
+pub const GUID_WORDS: usize = 4;
 
 mod c {
     unsafe extern "C" {
@@ -14,6 +28,35 @@ mod c {
             words_len: usize,
             capacities: *const u32,
             capacities_len: usize,
+            answer: *mut u64,
+            answer_len: usize,
+        ) -> u32;
+
+        pub fn ducat_template_at(
+            words: *const u32,
+            words_len: usize,
+            capacities: *const u32,
+            capacities_len: usize,
+            counts: *const u32,
+            counts_len: usize,
+            first: u32,
+            count: u32,
+            offset: u32,
+            answer: *mut u64,
+            answer_len: usize,
+        ) -> u32;
+
+        pub fn ducat_templates_for(
+            words: *const u32,
+            words_len: usize,
+            capacities: *const u32,
+            capacities_len: usize,
+            counts: *const u32,
+            counts_len: usize,
+            key: *const u32,
+            key_len: usize,
+            guids: *mut u32,
+            guids_len: usize,
             answer: *mut u64,
             answer_len: usize,
         ) -> u32;
@@ -33,6 +76,66 @@ pub fn ducat_read(blob: &[u8], words: &mut [u32], capacities: &[u32], answer: &m
             words.len(),
             capacities.as_ptr(),
             capacities.len(),
+            answer.as_mut_ptr(),
+            answer.len(),
+        )
+    }
+}
+
+/// Finds the lowest template at an offset among the entries of list 9 from `first` on, `count` of
+/// them; gives the code. Ten capacities, ten counts and 6 numbers are expected: any other length
+/// is code 8.
+pub fn ducat_template_at(
+    words: &[u32],
+    capacities: &[u32],
+    counts: &[u32],
+    first: u32,
+    count: u32,
+    offset: u32,
+    answer: &mut [u64],
+) -> u32 {
+    // SAFETY: as above.
+    unsafe {
+        c::ducat_template_at(
+            words.as_ptr(),
+            words.len(),
+            capacities.as_ptr(),
+            capacities.len(),
+            counts.as_ptr(),
+            counts.len(),
+            first,
+            count,
+            offset,
+            answer.as_mut_ptr(),
+            answer.len(),
+        )
+    }
+}
+
+/// Writes the GUIDs of the templates of the events with a key, each once, to the lent list; gives
+/// the code. Ten capacities, ten counts, 12 words of the key and 5 numbers are expected: any other
+/// length is code 8. About 70 KB of stack are used.
+pub fn ducat_templates_for(
+    words: &[u32],
+    capacities: &[u32],
+    counts: &[u32],
+    key: &[u32],
+    guids: &mut [u32],
+    answer: &mut [u64],
+) -> u32 {
+    // SAFETY: as above.
+    unsafe {
+        c::ducat_templates_for(
+            words.as_ptr(),
+            words.len(),
+            capacities.as_ptr(),
+            capacities.len(),
+            counts.as_ptr(),
+            counts.len(),
+            key.as_ptr(),
+            key.len(),
+            guids.as_mut_ptr(),
+            guids.len(),
             answer.as_mut_ptr(),
             answer.len(),
         )

@@ -1,4 +1,4 @@
-//! Why a block isn't read.
+//! Why a block isn't read, or nothing is looked up in it.
 
 use std::fmt;
 
@@ -10,7 +10,7 @@ use crate::raw;
 /// The most bytes that are read.
 const LONGEST: u32 = 16_777_216;
 
-/// Why a block isn't read. Places and offsets are bytes from the block's start; only the offset
+/// Why a block isn't read, or nothing is looked up in it. Places and offsets are bytes from the block's start; only the offset
 /// of `TEMP.template_items_offset (relative)` is counted from its template's start.
 #[derive(Clone, Copy, Debug, PartialEq, Eq)]
 pub enum Refusal {
@@ -50,6 +50,8 @@ pub enum Refusal {
     /// Code 9: the block is right, but has more entries for a list than there is room. It is the
     /// lowest-numbered such list.
     ListTooSmall { list: List, capacity: u64 },
+    /// Code 10: a lookup over lists that don't fit together, or in a range past its list.
+    ListsApart,
 }
 
 impl Refusal {
@@ -65,6 +67,7 @@ impl Refusal {
             Refusal::TooLong => 7,
             Refusal::BadLending => 8,
             Refusal::ListTooSmall { .. } => 9,
+            Refusal::ListsApart => 10,
         }
     }
 
@@ -106,7 +109,16 @@ impl Refusal {
                 list: List::ALL[first as usize - 1],
                 capacity: second,
             },
-            _ => unreachable!("the library has no code {code}"),
+            _ => unreachable!("the library has no code {code} for a reading"),
+        }
+    }
+
+    /// What a lookup's code that is neither 0 nor 9 says.
+    pub(crate) fn from_lookup(code: u32) -> Refusal {
+        match code {
+            8 => Refusal::BadLending,
+            10 => Refusal::ListsApart,
+            _ => unreachable!("the library has no code {code} for a lookup"),
         }
     }
 }
@@ -160,6 +172,10 @@ impl fmt::Display for Refusal {
                 f,
                 "list {} ({list}): there are more entries than its capacity of {capacity}",
                 *list as u32
+            ),
+            Refusal::ListsApart => write!(
+                f,
+                "the lists don't fit together, or the range is past its list"
             ),
         }
     }

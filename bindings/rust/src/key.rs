@@ -1,0 +1,54 @@
+//! What an event is looked up by.
+
+use crate::entry::Event;
+use crate::parts::Guid;
+use crate::raw;
+
+/// What an event is looked up by: its provider's GUID, and the fields that a log has of it.
+#[derive(Clone, Copy, Debug, PartialEq, Eq, Hash)]
+pub struct Key {
+    pub guid: Guid,
+    pub event_id: u16,
+    pub version: u8,
+    pub channel: u8,
+    pub level: u8,
+    pub opcode: u8,
+    pub task: u16,
+    pub keywords: u64,
+}
+
+impl Key {
+    pub(crate) fn words(&self) -> [u32; raw::KEY_WORDS] {
+        let [a, b, c, d] = self.guid.to_words();
+        [
+            a,
+            b,
+            c,
+            d,
+            self.event_id.into(),
+            self.version.into(),
+            self.channel.into(),
+            self.level.into(),
+            self.opcode.into(),
+            self.task.into(),
+            self.keywords as u32,
+            (self.keywords >> 32) as u32,
+        ]
+    }
+}
+
+impl Event {
+    /// The event's key, if it is one of a provider with this GUID.
+    pub fn key(&self, guid: Guid) -> Key {
+        Key {
+            guid,
+            event_id: self.identifier,
+            version: self.version,
+            channel: self.channel,
+            level: self.level,
+            opcode: self.opcode,
+            task: self.task,
+            keywords: self.keywords,
+        }
+    }
+}

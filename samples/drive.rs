@@ -1,0 +1,303 @@
+//! drive FOLDER: the samples. `drive.crim` is a block of the sort that a drive cabinet's provider file holds, written with the
+//! benchmark's writer; `drive.txt` is its listing, told from where the templates were written; `t.bin` is the blob T.
+
+#[path = "../oracle/generator/small.rs"]
+#[allow(dead_code)]
+mod small;
+#[path = "../bench/writer.rs"]
+#[allow(dead_code)]
+mod writer;
+
+use std::path::PathBuf;
+
+use writer::Writer;
+
+/// A message identifier that names none.
+const NONE: u32 = u32::MAX;
+
+/// What a value is, in BinXML.
+const U32: u8 = 0x08;
+const TEXT: u8 = 0x01;
+
+/// A name and what the value is.
+type Values = &'static [(&'static str, u8)];
+
+/// Identifier, level (2 to 4), task and opcode (counted from 1, 0 for none), keywords, and what it carries: an event that carries nothing
+/// has no template.
+type Event = (u32, u32, u32, u32, u32, Values);
+
+struct Provider {
+    guid: [u32; 4],
+    channels: &'static [&'static str],
+    tasks: &'static [&'static str],
+    opcodes: &'static [&'static str],
+    keywords: &'static [&'static str],
+    /// Names of value maps.
+    maps: &'static [&'static str],
+    events: &'static [Event],
+}
+
+const LEVELS: [&str; 3] = ["win:Error", "win:Warning", "win:Informational"];
+
+const PROVIDERS: [Provider; 3] = [
+    // The drive cabinet.
+    Provider {
+        guid: [0x5b1f_33d2, 0x4f0e_9a61, 0x71c4_08b3, 0x1d92_6ee7],
+        channels: &["DriveCabinet/Operational", "DriveCabinet/Diagnostic"],
+        tasks: &["CarPassed", "DriveStarted", "DriveStopped"],
+        opcodes: &["Up", "Down"],
+        keywords: &["Position", "Safety"],
+        maps: &["StopCause"],
+        events: &[
+            (
+                100,
+                4,
+                1,
+                1,
+                1,
+                &[("Car", U32), ("Position", U32), ("Tick", U32)],
+            ),
+            (
+                101,
+                4,
+                1,
+                2,
+                1,
+                &[("Car", U32), ("Position", U32), ("Tick", U32)],
+            ),
+            (110, 4, 2, 0, 0, &[("Speed", U32)]),
+            (111, 3, 3, 0, 2, &[("Cause", U32), ("Position", U32)]),
+            (119, 2, 3, 0, 2, &[]),
+        ],
+    },
+    // The haul rope.
+    Provider {
+        guid: [0x0c77_a1e4, 0x4a5d_22b8, 0x99d0_3f86, 0xb24e_517c],
+        channels: &["HaulRope/Operational"],
+        tasks: &["TensionMeasured", "RopeInspected"],
+        opcodes: &[],
+        keywords: &["Maintenance"],
+        maps: &[],
+        events: &[
+            (200, 4, 1, 0, 0, &[("Tension", U32), ("Tick", U32)]),
+            (210, 4, 2, 0, 1, &[("Inspector", TEXT)]),
+        ],
+    },
+    // The cars' doors.
+    Provider {
+        guid: [0xe3d8_9b05, 0x4c12_f76a, 0x205b_88af, 0x6f0a_d931],
+        channels: &[],
+        tasks: &[],
+        opcodes: &[],
+        keywords: &[],
+        maps: &[],
+        events: &[(300, 4, 0, 0, 0, &[])],
+    },
+];
+
+fn main() -> std::io::Result<()> {
+    let folder = PathBuf::from(std::env::args().nth(1).unwrap_or_else(|| ".".into()));
+    let mut w = Writer::new(PROVIDERS.len() as u32);
+    let mut lines = String::new();
+    for (number, provider) in (0..).zip(&PROVIDERS) {
+        for (part, word) in (0..).zip(provider.guid) {
+            w.set(16 + 20 * number + 4 * part, word);
+        }
+        let wevt = write(&mut w, number << 28, provider, &mut lines);
+        w.provider(number, wevt);
+    }
+    let block = w.close();
+    let (size, providers, templates) = (block.len(), PROVIDERS.len(), lines.lines().count());
+    let events: usize = PROVIDERS.iter().map(|provider| provider.events.len()).sum();
+    let first =
+        format!("crim {size} providers {providers} events {events} templates {templates}\n");
+    std::fs::write(folder.join("drive.crim"), block)?;
+    std::fs::write(folder.join("drive.txt"), first + &lines)?;
+    std::fs::write(folder.join("t.bin"), small::t())
+}
+
+/// A provider's tables and its WEVT, with message identifiers from a number on; gives the WEVT's place.
+fn write(w: &mut Writer, message: u32, provider: &Provider, lines: &mut String) -> u32 {
+    let mut elements = Vec::new();
+    let all = &mut elements;
+    table(w, all, b"CHAN", provider.channels, |i, name| {
+        vec![15 + i, name, 0, NONE]
+    });
+    let templates = templates(w, all, provider.events, lines);
+    let levels = table(w, all, b"LEVL", &LEVELS, |i, name| {
+        vec![1 + i, 0x5000_0001 + i, name]
+    });
+    let tasks = table(w, all, b"TASK", provider.tasks, |i, name| {
+        vec![i, message + 0x700 + i, 0, 0, 0, 0, name]
+    });
+    let opcodes = table(w, all, b"OPCO", provider.opcodes, |i, name| {
+        vec![i << 16, message + 0x300 + i, name]
+    });
+    table(w, all, b"KEYW", provider.keywords, |i, name| {
+        vec![1 << (i - 1), 0, message + 0x100 + i, name]
+    });
+    for map in provider.maps {
+        let name = w.name(map.encode_utf16());
+        elements.push(w.maps(1, 4, name));
+    }
+    let table = w.open(b"EVNT");
+    w.words(&[provider.events.len() as u32, 0]);
+    let place = |places: &[u32], number: u32| match number {
+        0 => 0,
+        number => places[number as usize - 1],
+    };
+    for (&(identifier, level, task, opcode, keywords, _), &template) in
+        provider.events.iter().zip(&templates)
+    {
+        w.words(&[
+            identifier | 16 << 24,
+            level | opcode << 8 | task << 16,
+            keywords,
+            0,
+        ]);
+        w.words(&[
+            message + identifier,
+            template,
+            place(&opcodes, opcode),
+            place(&levels, level - 1),
+            place(&tasks, task),
+            0,
+            0,
+            0,
+        ]);
+    }
+    w.end(table);
+    elements.push(table);
+    let wevt = w.wevt(&elements, 0);
+    w.set(wevt + 8, NONE);
+    wevt
+}
+
+/// A table with a record for each name, which are counted from 1, if there are any; gives the records' places.
+fn table(
+    w: &mut Writer,
+    elements: &mut Vec<u32>,
+    signature: &[u8; 4],
+    names: &[&str],
+    record: impl Fn(u32, u32) -> Vec<u32>,
+) -> Vec<u32> {
+    if names.is_empty() {
+        return Vec::new();
+    }
+    let names: Vec<u32> = names
+        .iter()
+        .map(|name| w.name(name.encode_utf16()))
+        .collect();
+    let place = w.open(signature);
+    w.words(&[names.len() as u32]);
+    let mut records = Vec::new();
+    for (i, &name) in (1..).zip(&names) {
+        records.push(w.here());
+        w.words(&record(i, name));
+    }
+    w.end(place);
+    elements.push(place);
+    records
+}
+
+/// A template for each event that carries something, and its line; gives their places, 0 for none.
+fn templates(
+    w: &mut Writer,
+    elements: &mut Vec<u32>,
+    events: &[Event],
+    lines: &mut String,
+) -> Vec<u32> {
+    let with = events.iter().filter(|event| !event.5.is_empty()).count();
+    if with == 0 {
+        return vec![0; events.len()];
+    }
+    let place = w.open(b"TTBL");
+    w.words(&[with as u32]);
+    let mut places = Vec::new();
+    for &(identifier, _, _, _, _, values) in events {
+        if values.is_empty() {
+            places.push(0);
+            continue;
+        }
+        let temp = w.open(b"TEMP");
+        let count = values.len() as u32;
+        w.words(&[
+            count,
+            count,
+            0,
+            1,
+            identifier,
+            0x4a11_0c3f,
+            0x83d2_96e0,
+            0x2b57_f4a9,
+        ]);
+        let binxml = binxml(values);
+        w.bytes.extend(&binxml);
+        w.set(temp + 16, w.here());
+        items(w, values);
+        w.end(temp);
+        let (size, start, length) = (w.here() - temp, temp + 40, binxml.len());
+        *lines += &format!("template {temp} size {size} binxml {start} {length}\n");
+        places.push(temp);
+    }
+    w.end(place);
+    elements.push(place);
+    places
+}
+
+/// A template's items: a descriptor for each value, and behind them the names.
+fn items(w: &mut Writer, values: Values) {
+    let descriptors = w.here();
+    for &(_, kind) in values {
+        w.words(&[0, u32::from(kind), 0, 1, 0]);
+    }
+    for (i, (name, _)) in (0..).zip(values) {
+        let name = w.name(name.encode_utf16());
+        w.set(descriptors + 20 * i + 16, name);
+    }
+}
+
+/// The BinXML of `<EventData><Data Name="NAME">VALUE</Data>..</EventData>`.
+fn binxml(values: Values) -> Vec<u8> {
+    let mut data = vec![0x02];
+    for (number, (name, kind)) in (0u16..).zip(values) {
+        let mut attribute = [&[0x06], &named("Name")[..], &[0x05, 0x01]].concat();
+        attribute.extend((name.len() as u16).to_le_bytes());
+        attribute.extend(name.encode_utf16().flat_map(u16::to_le_bytes));
+        let mut body = (attribute.len() as u32).to_le_bytes().to_vec();
+        body.extend(attribute);
+        body.extend([0x02, 0x0d]);
+        body.extend(number.to_le_bytes());
+        body.extend([*kind, 0x04]);
+        data.extend(element(0x41, "Data", &body));
+    }
+    data.push(0x04);
+    [
+        &[0x0f, 0x01, 0x01, 0x00],
+        &element(0x01, "EventData", &data)[..],
+        &[0x00],
+    ]
+    .concat()
+}
+
+/// An element: its token, no dependency, its size, its name and what follows.
+fn element(token: u8, name: &str, rest: &[u8]) -> Vec<u8> {
+    let rest = [&named(name)[..], rest].concat();
+    [
+        &[token, 0xff, 0xff],
+        &(rest.len() as u32).to_le_bytes()[..],
+        &rest,
+    ]
+    .concat()
+}
+
+/// A name in BinXML: its hash, its length, its units and a zero unit.
+fn named(name: &str) -> Vec<u8> {
+    let hash = name.encode_utf16().fold(0u32, |hash, unit| {
+        hash.wrapping_mul(65_599).wrapping_add(unit.into())
+    });
+    let mut units = vec![hash as u16, name.len() as u16];
+    units.extend(name.encode_utf16());
+    units.push(0);
+    units.into_iter().flat_map(u16::to_le_bytes).collect()
+}
