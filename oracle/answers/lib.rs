@@ -11,6 +11,7 @@ use original::wevt_templates::manifest::{
 };
 
 pub mod fields;
+pub mod joins;
 
 /// The longest blob that is read; a longer one is code 7, the port's own.
 pub const LONGEST: usize = 16_777_216;

@@ -2,20 +2,30 @@
 //!
 //! Each blob is read several times, with memory lent in different ways. Compared are all numbers
 //! of the answer and every lent word: those that must be written, and those that must be kept.
+//!
+//! In the lists of each accepted blob templates are looked up, by keys and by offsets, and compared
+//! with what the original finds; also in the lists of blobs that are made for it.
 
+mod joining;
 mod lending;
 
+use std::fmt;
 use std::process::ExitCode;
 use std::sync::atomic::{AtomicBool, AtomicU64, Ordering::Relaxed};
 use std::thread;
 
 use answers::{Answer, answer};
 use generator::known::{self, Shared};
-use generator::{Rng, large};
+use generator::{Rng, joins, large};
+use joining::{Joiner, Lists};
 use lending::{Lending, Numbers, Reader};
 
 /// How many large blobs there are, whatever the count.
 const LARGE: u64 = 64;
+
+/// Of so many blobs one more is made for joins; and some large ones, whatever the count.
+const PER_JOINED: u64 = 4;
+const LARGE_JOINED: u64 = 8;
 
 fn main() -> ExitCode {
     let arguments: Vec<Option<u64>> = std::env::args().skip(1).map(|a| a.parse().ok()).collect();
@@ -52,6 +62,25 @@ fn main() -> ExitCode {
         total.by_code[8],
         total.by_code[9]
     );
+    let joins = &total.joins;
+    println!(
+        "joins in these, in {} blobs made for joins and in {LARGE_JOINED} large ones: {} blobs with \
+         events that have templates; {} keys, {} of them with templates, {} with several, {} where \
+         two providers have one GUID; {} offsets, {} of them of a template; {} lookups, {} of them \
+         8, {} 9, {} 10: no difference",
+        count / PER_JOINED,
+        joins.blobs,
+        joins.keys,
+        joins.given,
+        joins.several,
+        joins.repeated,
+        joins.offsets,
+        joins.found,
+        joins.by_code.iter().sum::<u64>(),
+        joins.by_code[8],
+        joins.by_code[9],
+        joins.by_code[10]
+    );
     ExitCode::SUCCESS
 }
 
@@ -69,6 +98,7 @@ struct Totals {
     refused: u64,
     readings: u64,
     by_code: [u64; 10],
+    joins: joining::Totals,
 }
 
 impl Totals {
@@ -79,26 +109,82 @@ impl Totals {
         for (mine, theirs) in self.by_code.iter_mut().zip(other.by_code) {
             *mine += theirs;
         }
+        self.joins.add(&other.joins);
         self
     }
 }
 
+/// What a blob is made for, and which of them it is.
+#[derive(Clone, Copy)]
+enum Source {
+    Any(u64),
+    Large(u64),
+    Joined(u64),
+    LargeJoined(u64),
+}
+
+impl Source {
+    /// The blob of a seed, and numbers for what is done with it.
+    fn blob(self, seed: u64) -> (Vec<u8>, Rng) {
+        let (Source::Any(index)
+        | Source::Large(index)
+        | Source::Joined(index)
+        | Source::LargeJoined(index)) = self;
+        let mut rng = Rng::new(seed, index);
+        let blob = match self {
+            Source::Any(_) => generator::blob(&mut rng, generator::DAMAGED),
+            Source::Large(_) => large::blob(&mut rng),
+            Source::Joined(_) => joins::blob(&mut rng),
+            Source::LargeJoined(_) => joins::large(&mut rng),
+        };
+        (blob, rng)
+    }
+}
+
+/// As `generate` takes it.
+impl fmt::Display for Source {
+    fn fmt(&self, f: &mut fmt::Formatter<'_>) -> fmt::Result {
+        match self {
+            Source::Any(index) => write!(f, "blob {index}"),
+            Source::Large(index) => write!(f, "blob {index} --large"),
+            Source::Joined(index) => write!(f, "blob {index} --joins"),
+            Source::LargeJoined(index) => write!(f, "blob {index} --joins --large"),
+        }
+    }
+}
+
 impl Run {
+    /// The blob with a number, if there are so many.
+    fn source(&self, number: u64) -> Option<Source> {
+        let joined = self.count / PER_JOINED;
+        let sources: [(u64, fn(u64) -> Source); 4] = [
+            (LARGE, Source::Large),
+            (LARGE_JOINED, Source::LargeJoined),
+            (joined, Source::Joined),
+            (self.count, Source::Any),
+        ];
+        let mut index = number;
+        for (count, source) in sources {
+            match index.checked_sub(count) {
+                None => return Some(source(index)),
+                Some(rest) => index = rest,
+            }
+        }
+        None
+    }
+
     /// Takes blobs until there are none left, or one differs.
     fn work(&self) -> Totals {
         let mut worker = Worker::default();
         loop {
             let number = self.next.fetch_add(1, Relaxed);
-            if number >= LARGE + self.count || self.failed.load(Relaxed) {
-                return worker.totals;
-            }
-            let (index, is_large) = match number.checked_sub(LARGE) {
-                Some(index) => (index, false),
-                None => (number, true),
+            let source = self.source(number);
+            let Some(source) = source.filter(|_| !self.failed.load(Relaxed)) else {
+                return worker.totals();
             };
             // A panic of the original is a difference too; here it is known of which blob.
             let result = std::panic::catch_unwind(std::panic::AssertUnwindSafe(|| {
-                worker.compare(self.seed, index, is_large)
+                worker.compare(self.seed, source)
             }));
             let difference = match result {
                 Ok(Ok(())) => continue,
@@ -106,10 +192,9 @@ impl Run {
                 Err(_) => "no answer".to_string(),
             };
             if !self.failed.swap(true, Relaxed) {
-                let kind = if is_large { "large blob" } else { "blob" };
-                eprintln!("{kind} {index} of seed {}: {difference}", self.seed);
+                eprintln!("{source} of seed {}: {difference}", self.seed);
             }
-            return worker.totals;
+            return worker.totals();
         }
     }
 }
@@ -117,20 +202,30 @@ impl Run {
 #[derive(Default)]
 struct Worker {
     reader: Reader,
+    joiner: Joiner,
     totals: Totals,
     /// The longest bytes that are lent, and some more: any blob can stand at their start.
     long: Vec<u8>,
 }
 
 impl Worker {
-    fn compare(&mut self, seed: u64, index: u64, is_large: bool) -> Result<(), String> {
-        let mut rng = Rng::new(seed, index);
-        let blob = if is_large {
-            large::blob(&mut rng)
-        } else {
-            generator::blob(&mut rng, generator::DAMAGED)
-        };
+    fn totals(self) -> Totals {
+        Totals {
+            joins: self.joiner.totals,
+            ..self.totals
+        }
+    }
+
+    fn compare(&mut self, seed: u64, source: Source) -> Result<(), String> {
+        let (blob, mut rng) = source.blob(seed);
         let found = answer(&blob);
+        let (is_large, index) = match source {
+            Source::Any(index) => (false, index),
+            Source::Large(index) => (true, index),
+            Source::Joined(_) | Source::LargeJoined(_) => {
+                return self.join(&blob, &found, &mut rng);
+            }
+        };
         match found.code {
             0 => self.totals.accepted += 1,
             _ => self.totals.refused += 1,
@@ -143,7 +238,30 @@ impl Worker {
         if !is_large && index.is_multiple_of(16) {
             self.lend_longer(&blob, &mut rng)?;
         }
-        Ok(())
+        self.join(&blob, &found, &mut rng)
+    }
+
+    /// Looks up in the lists of an accepted blob, if they have room.
+    fn join(&mut self, blob: &[u8], found: &Answer, rng: &mut Rng) -> Result<(), String> {
+        let lending = Lending::roomy(&found.counts(), rng);
+        let expected = lending.expected(found);
+        if expected[0] != 0 {
+            return Ok(());
+        }
+        let read = self.reader.read(blob, &lending, &expected, &found.lists);
+        let joined = read.and_then(|()| {
+            let lists = Lists {
+                words: self.reader.words(),
+                capacities: lending.capacities,
+                counts: found.counts().map(|count| count as u32),
+            };
+            self.joiner.join(&lists, blob, found, rng)
+        });
+        joined.map_err(|difference| format!("{difference}{}", shown(blob)))?;
+        match self.reader.kept() {
+            true => Ok(()),
+            false => Err(format!("a lookup changed a word{}", shown(blob))),
+        }
     }
 
     /// The same bytes with words that fit, are more, are too few, or are refused.

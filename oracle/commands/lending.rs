@@ -11,7 +11,7 @@ pub type Numbers = [u64; raw::NUMBERS];
 const MOST: u32 = 65_536;
 
 pub struct Lending {
-    capacities: [u32; 10],
+    pub capacities: [u32; 10],
     /// How many words are lent.
     words: usize,
 }
@@ -115,6 +115,16 @@ pub struct Reader {
 }
 
 impl Reader {
+    /// The lent words, as the last reading left them.
+    pub fn words(&self) -> &[u32] {
+        &self.words
+    }
+
+    /// Whether they still are what that reading had to leave.
+    pub fn kept(&self) -> bool {
+        self.words == self.expected
+    }
+
     /// Reads the blob, and says how the answer or a lent word differs from what must come.
     pub fn read(
         &mut self,

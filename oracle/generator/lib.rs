@@ -5,6 +5,7 @@ mod damage;
 mod draft;
 mod elements;
 mod faults;
+pub mod joins;
 pub mod known;
 pub mod large;
 mod maps;

@@ -1,0 +1,323 @@
+//! The library's lookups, held against what the original finds.
+
+use std::collections::{BTreeMap, BTreeSet};
+
+use answers::joins::{Accepted, Key, Words};
+use answers::{Answer, WORDS};
+use ducatfeather::raw;
+use generator::Rng;
+
+/// How many comparisons of entries the keys or offsets of one blob may take, about. All are asked
+/// for of blobs with at most 2,000 events, and templates.
+const MOST: usize = 16_000_000;
+
+#[derive(Default)]
+pub struct Totals {
+    /// Blobs that an event has a template in.
+    pub blobs: u64,
+    /// Keys that were asked for, those with templates, and those with several.
+    pub keys: u64,
+    pub given: u64,
+    pub several: u64,
+    /// Those with templates in blobs where two providers have the same GUID.
+    pub repeated: u64,
+    /// Offsets that were asked for, and those of a template.
+    pub offsets: u64,
+    pub found: u64,
+    /// All lookups.
+    pub by_code: [u64; 11],
+}
+
+impl Totals {
+    pub fn add(&mut self, other: &Totals) {
+        self.blobs += other.blobs;
+        self.keys += other.keys;
+        self.given += other.given;
+        self.several += other.several;
+        self.repeated += other.repeated;
+        self.offsets += other.offsets;
+        self.found += other.found;
+        for (mine, theirs) in self.by_code.iter_mut().zip(other.by_code) {
+            *mine += theirs;
+        }
+    }
+}
+
+/// What a reading was lent, and left.
+pub struct Lists<'a> {
+    pub words: &'a [u32],
+    pub capacities: [u32; 10],
+    pub counts: [u32; 10],
+}
+
+impl Lists<'_> {
+    /// Where the area behind so many lists starts.
+    fn area(&self, lists: usize) -> usize {
+        let before = self.capacities.iter().zip(WORDS).take(lists);
+        before.map(|(&room, words)| room as usize * words).sum()
+    }
+}
+
+/// Looks up with the library. Keeps its memory from one lookup to the next.
+#[derive(Default)]
+pub struct Joiner {
+    guids: Vec<u32>,
+    salt: u32,
+    pub totals: Totals,
+}
+
+impl Joiner {
+    /// Looks up in the lists of an accepted blob, and says how the library differs.
+    pub fn join(
+        &mut self,
+        lists: &Lists,
+        blob: &[u8],
+        found: &Answer,
+        rng: &mut Rng,
+    ) -> Result<(), String> {
+        let accepted = Accepted::new(blob);
+        let index = accepted.index();
+        let repeated = accepted.repeats_a_guid();
+        self.totals.blobs += u64::from(!index.is_empty());
+        for key in keys(found, &index, rng) {
+            let guids = index.get(&key).map_or(&[][..], Vec::as_slice);
+            self.by_key(lists, &key, guids, rng)?;
+            self.totals.keys += 1;
+            self.totals.given += u64::from(!guids.is_empty());
+            self.totals.several += u64::from(guids.len() > 1);
+            self.totals.repeated += u64::from(repeated && !guids.is_empty());
+        }
+        self.by_offsets(lists, found, &accepted, rng)?;
+        self.refusals(lists, found, rng)
+    }
+
+    /// With just the room that is needed, with more, and with too little.
+    fn by_key(
+        &mut self,
+        lists: &Lists,
+        key: &Key,
+        guids: &[Words],
+        rng: &mut Rng,
+    ) -> Result<(), String> {
+        let given = [0, 0, 0, 0, guids.len() as u64];
+        self.look_up(lists, key, 4 * guids.len(), given, guids)?;
+        let more = rng.between(1, 13);
+        self.look_up(lists, key, 4 * guids.len() + more, given, guids)?;
+        if !guids.is_empty() {
+            let room = rng.below(guids.len());
+            let short = [9, 0, 11, room as u64, 0];
+            self.look_up(lists, key, 4 * room + rng.below(4), short, &[])?;
+        }
+        Ok(())
+    }
+
+    /// Lends so many words; the answer and all of them must come out so.
+    fn look_up(
+        &mut self,
+        lists: &Lists,
+        key: &[u32],
+        lent: usize,
+        expected: [u64; raw::GUIDS_NUMBERS],
+        guids: &[Words],
+    ) -> Result<(), String> {
+        self.totals.by_code[expected[0] as usize] += 1;
+        self.salt = self.salt.wrapping_add(0x9e37_79b9);
+        let salt = self.salt;
+        let pattern = move |i: usize| (i as u32).wrapping_mul(0x85eb_ca6b) ^ salt;
+        self.guids.clear();
+        self.guids.extend((0..lent).map(pattern));
+        let mut answer = [u64::from(salt); raw::GUIDS_NUMBERS];
+        let code = raw::ducat_templates_for(
+            lists.words,
+            &lists.capacities,
+            &lists.counts,
+            key,
+            &mut self.guids,
+            &mut answer,
+        );
+        let written = guids.iter().flatten().copied();
+        let kept = (4 * guids.len()..lent).map(pattern);
+        if answer != expected
+            || u64::from(code) != expected[0]
+            || !written.chain(kept).eq(self.guids.iter().copied())
+        {
+            return Err(format!(
+                "for the key {key:?}, with {lent} words lent, the library gives {code}, answers \
+                 {answer:?} instead of {expected:?}, and leaves {:?} where {guids:?} are right",
+                self.guids
+            ));
+        }
+        Ok(())
+    }
+
+    /// The templates of each provider's TTBL: at their own offsets, at those that its events name,
+    /// and a little beside them.
+    fn by_offsets(
+        &mut self,
+        lists: &Lists,
+        found: &Answer,
+        accepted: &Accepted,
+        rng: &mut Rng,
+    ) -> Result<(), String> {
+        for table in entries(found, 4).filter(|table| table[1] == 8) {
+            let [provider, first, count] = [table[0], table[5], table[6]];
+            let mut offsets = vec![0, rng.word()];
+            offsets.extend(part(found, 9, first, count).map(|template| template[0]));
+            for events in entries(found, 4).filter(|t| t[0] == provider && t[1] == 2) {
+                offsets.extend(part(found, 6, events[5], events[6]).map(|event| event[9]));
+            }
+            some(&mut offsets, count, rng);
+            let beside = rng.pick(&offsets).wrapping_add(rng.pick(&[1, u32::MAX]));
+            offsets.push(beside);
+            for offset in offsets {
+                let at = accepted.template_at(provider as usize, offset);
+                let expected = match at {
+                    Some(at) => [0, 0, 0, 0, 1, u64::from(first) + at as u64],
+                    None => [0; raw::TEMPLATE_NUMBERS],
+                };
+                self.look_at(lists, [first, count, offset], expected)?;
+                self.totals.offsets += 1;
+                self.totals.found += u64::from(at.is_some());
+            }
+        }
+        Ok(())
+    }
+
+    /// Looks a template up in a range of list 9; the answer must come out so.
+    fn look_at(
+        &mut self,
+        lists: &Lists,
+        [first, count, offset]: [u32; 3],
+        expected: [u64; raw::TEMPLATE_NUMBERS],
+    ) -> Result<(), String> {
+        self.totals.by_code[expected[0] as usize] += 1;
+        let mut answer = [u64::MAX; raw::TEMPLATE_NUMBERS];
+        let code = raw::ducat_template_at(
+            lists.words,
+            &lists.capacities,
+            &lists.counts,
+            first,
+            count,
+            offset,
+            &mut answer,
+        );
+        if answer != expected || u64::from(code) != expected[0] {
+            return Err(format!(
+                "at the offset {offset}, in {count} entries from {first} on, the library gives {code} \
+                 and answers {answer:?} instead of {expected:?}"
+            ));
+        }
+        Ok(())
+    }
+
+    /// Lookups that must be refused, whatever is looked for.
+    fn refusals(&mut self, lists: &Lists, found: &Answer, rng: &mut Rng) -> Result<(), String> {
+        // A count over its capacity; with a word too few as well, 8 comes first.
+        let mut counts = lists.counts;
+        let list = rng.below(10);
+        counts[list] = over(lists.capacities[list], rng);
+        let mut apart = Lists { counts, ..*lists };
+        self.refused(&apart, found, 10, rng)?;
+        self.look_at(&apart, [0; 3], [10, 0, 0, 0, 0, 0])?;
+        let needed = lists.area(10);
+        if needed > 0 {
+            apart.words = &lists.words[..needed - 1];
+            self.refused(&apart, found, 8, rng)?;
+            self.look_at(&apart, [0; 3], [8, 0, 0, 0, 0, 0])?;
+        }
+
+        // A range past the templates.
+        let first = rng.below(lists.counts[8] as usize + 2) as u32;
+        let count = match lists.counts[8].checked_sub(first) {
+            Some(left) => over(left, rng),
+            None => rng.word(),
+        };
+        self.look_at(lists, [first, count, rng.word()], [10, 0, 0, 0, 0, 0])?;
+
+        // A table that names a provider, a kind or entries that are not there. The words are copied.
+        let tables = lists.counts[3] as usize;
+        if tables > 0 && lists.words.len() < 100_000 {
+            let mut words = lists.words.to_vec();
+            let table = &mut words[lists.area(3) + 9 * rng.below(tables)..][..9];
+            let list = [5, 6, 5, 5, 7, 5, 5, 9][table[1] as usize - 1];
+            let entries = lists.counts[list - 1];
+            match rng.below(4) {
+                0 => table[0] = over(lists.counts[0] - 1, rng),
+                1 => table[1] = rng.pick(&[0, 9, u32::MAX]),
+                2 => table[5] = over(entries - table[6], rng),
+                _ => table[6] = over(entries - table[5], rng),
+            }
+            let words = &words;
+            self.refused(&Lists { words, ..*lists }, found, 10, rng)?;
+        }
+        Ok(())
+    }
+
+    /// By key: one of an event, if there is any, and of the first provider.
+    fn refused(
+        &mut self,
+        lists: &Lists,
+        found: &Answer,
+        code: u64,
+        rng: &mut Rng,
+    ) -> Result<(), String> {
+        let key = match (entries(found, 1).next(), entries(found, 6).next()) {
+            (Some(provider), Some(event)) => key_of(provider, event),
+            _ => std::array::from_fn(|_| rng.word()),
+        };
+        self.look_up(lists, &key, rng.below(9), [code, 0, 0, 0, 0], &[])
+    }
+}
+
+/// A number over this one.
+fn over(number: u32, rng: &mut Rng) -> u32 {
+    let more = if rng.chance(50) { 0 } else { rng.word() };
+    (number + 1).saturating_add(more)
+}
+
+/// The keys to ask for: those of the original's index, those of all events, and of each one nearby.
+fn keys(found: &Answer, index: &BTreeMap<Key, Vec<Words>>, rng: &mut Rng) -> Vec<Key> {
+    let providers: Vec<&[u32]> = entries(found, 1).collect();
+    let mut all: BTreeSet<Key> = index.keys().copied().collect();
+    for table in entries(found, 4).filter(|table| table[1] == 2) {
+        let provider = providers[table[0] as usize];
+        let events = part(found, 6, table[5], table[6]);
+        all.extend(events.map(|event| key_of(provider, event)));
+    }
+    let mut keys: Vec<Key> = all.into_iter().collect();
+    some(&mut keys, found.counts()[5] as u32, rng);
+    for i in 0..keys.len() {
+        let mut near = keys[i];
+        match rng.below(4) {
+            0 => near[..4].copy_from_slice(&rng.pick(&providers)[..4]),
+            1 => near[4 + rng.below(8)] ^= 1 << rng.below(8),
+            _ => near[rng.below(12)] ^= 1 << rng.below(32),
+        }
+        keys.push(near);
+    }
+    keys
+}
+
+fn key_of(provider: &[u32], event: &[u32]) -> Key {
+    std::array::from_fn(|i| if i < 4 { provider[i] } else { event[i - 4] })
+}
+
+/// All of them, or some if looking each up among so many entries takes too long.
+fn some<T>(items: &mut Vec<T>, entries: u32, rng: &mut Rng) {
+    let most = MOST / (entries as usize + 1);
+    if items.len() > most {
+        rng.shuffle(items);
+        items.truncate(most);
+    }
+}
+
+/// A list's entries, counted from list 1.
+fn entries(found: &Answer, list: usize) -> impl Iterator<Item = &[u32]> {
+    found.lists[list - 1].chunks_exact(WORDS[list - 1])
+}
+
+fn part(found: &Answer, list: usize, first: u32, count: u32) -> impl Iterator<Item = &[u32]> {
+    entries(found, list)
+        .skip(first as usize)
+        .take(count as usize)
+}

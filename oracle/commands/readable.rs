@@ -1,0 +1,227 @@
+//! readable SEED FOLDER: blobs to `FOLDER/stdin`, and to `FOLDER/stdout` what a reader of them must
+//! print: the original's answers, one line each, and behind an accepted one a line for each list
+//! that has entries.
+//!
+//! The blobs are the cases of docs/FORMAT.md, for each pair of code and field the shortest generated
+//! one that has it, an accepted one with entries in every list, and some whose lent memory doesn't do.
+//! A record has `RECORD` bytes: twelve 32-bit little-endian numbers (the lengths of the name and of
+//! the blob, the ten capacities), the name and the blob, each with zeros behind it up to its room.
+
+use std::collections::BTreeMap;
+use std::path::PathBuf;
+use std::process::ExitCode;
+
+use answers::{Answer, answer, fields, fields::Pair};
+use generator::{Rng, known};
+
+/// How many generated blobs are looked at.
+const LOOKED_AT: u64 = 200_000;
+
+/// Room for a name and for a blob.
+const NAME: usize = 80;
+const BLOB: usize = 512;
+const RECORD: usize = 48 + NAME + BLOB;
+
+/// The capacity of each list where nothing else is said.
+const CAPACITY: u32 = 64;
+
+struct Case {
+    name: String,
+    blob: Vec<u8>,
+    capacities: [u32; 10],
+    expected: Answer,
+}
+
+fn main() -> ExitCode {
+    let mut arguments = std::env::args().skip(1);
+    let (Some(Ok(seed)), Some(folder), None) = (
+        arguments.next().map(|a| a.parse()),
+        arguments.next().map(PathBuf::from),
+        arguments.next(),
+    ) else {
+        eprintln!("usage: readable SEED FOLDER");
+        return ExitCode::from(2);
+    };
+    let Some(cases) = cases(seed) else {
+        return ExitCode::FAILURE;
+    };
+    let records: Vec<u8> = cases.iter().flat_map(record).collect();
+    let lines: String = cases.iter().map(lines).collect();
+    let written = std::fs::write(folder.join("stdin"), records)
+        .and_then(|()| std::fs::write(folder.join("stdout"), lines));
+    match written {
+        Ok(()) => {
+            let longest = cases.iter().map(|case| case.blob.len()).max();
+            println!("{} blobs, the longest of {longest:?} bytes", cases.len());
+            ExitCode::SUCCESS
+        }
+        Err(error) => {
+            eprintln!("readable: {error}");
+            ExitCode::FAILURE
+        }
+    }
+}
+
+/// All cases, or nothing if a pair has no blob that is short enough.
+fn cases(seed: u64) -> Option<Vec<Case>> {
+    let named = known::cases().into_iter();
+    let mut cases: Vec<Case> = named
+        .map(|(name, blob)| original(name.into(), blob))
+        .collect();
+    let (shortest, full) = generated(seed);
+    for pair in fields::promised() {
+        // Z is the shortest of those that are accepted.
+        if pair == (0, 0) {
+            continue;
+        }
+        let Some(blob) = shortest.get(&pair) else {
+            eprintln!("no blob of at most {BLOB} bytes has the pair {pair:?}");
+            return None;
+        };
+        cases.push(original(name(pair), blob.clone()));
+    }
+    let Some(full) = full else {
+        eprintln!("no accepted blob of at most {BLOB} bytes has entries in every list");
+        return None;
+    };
+    cases.push(original("entries in every list".into(), full));
+    cases.extend(own());
+    Some(cases)
+}
+
+/// A blob that the original answers.
+fn original(name: String, blob: Vec<u8>) -> Case {
+    Case {
+        expected: answer(&blob),
+        name,
+        blob,
+        capacities: [CAPACITY; 10],
+    }
+}
+
+/// What a refusal is about.
+fn name((code, field): Pair) -> String {
+    let field = fields::all().iter().find(|known| known.number == field);
+    match (code, field) {
+        (2, _) => "wrong signature".into(),
+        (_, Some(field)) => field.text.into(),
+        (_, None) => format!("code {code}"),
+    }
+}
+
+/// The shortest blob of each pair, and the shortest accepted one with entries in every list.
+fn generated(seed: u64) -> (BTreeMap<Pair, Vec<u8>>, Option<Vec<u8>>) {
+    let mut shortest: BTreeMap<Pair, Vec<u8>> = BTreeMap::new();
+    let mut full: Option<Vec<u8>> = None;
+    for index in 0..LOOKED_AT {
+        let blob = generator::blob(&mut Rng::new(seed, index), generator::DAMAGED);
+        if blob.len() > BLOB {
+            continue;
+        }
+        let found = answer(&blob);
+        let shorter = |known: &Vec<u8>| blob.len() < known.len();
+        if !found.counts().contains(&0) && full.as_ref().is_none_or(shorter) {
+            full = Some(blob.clone());
+        }
+        let pair = (found.code, found.field);
+        if shortest.get(&pair).is_none_or(shorter) {
+            shortest.insert(pair, blob);
+        }
+    }
+    (shortest, full)
+}
+
+/// Codes 8 and 9, which are the port's own: what docs/FORMAT.md says of them, and of their order.
+fn own() -> Vec<Case> {
+    let room = |list: usize, capacity| {
+        let mut capacities = [CAPACITY; 10];
+        capacities[list - 1] = capacity;
+        capacities
+    };
+    let refusal = |code, first, second| Answer {
+        code,
+        first,
+        second,
+        ..Answer::default()
+    };
+    let t = known::t();
+    let case = |name: &str, blob: &[u8], capacities, expected| Case {
+        name: name.into(),
+        blob: blob.into(),
+        capacities,
+        expected,
+    };
+    let short = known::with(&t, 80, 39);
+    vec![
+        case(
+            "T with no room for a template",
+            &t,
+            room(9, 0),
+            refusal(9, 9, 0),
+        ),
+        case("T with no room at all", &t, [0; 10], refusal(9, 1, 0)),
+        case(
+            "T with a capacity of 65,537",
+            &t,
+            room(3, 65_537),
+            refusal(8, 0, 0),
+        ),
+        case(
+            "T with areas that need too many words",
+            &t,
+            [65; 10],
+            refusal(8, 0, 0),
+        ),
+        case(
+            "empty with a capacity of 65,537",
+            &[],
+            room(10, 65_537),
+            refusal(8, 0, 0),
+        ),
+        case(
+            "TEMP.size 39 with no room at all",
+            &short,
+            [0; 10],
+            answer(&short),
+        ),
+    ]
+}
+
+fn record(case: &Case) -> Vec<u8> {
+    assert!(case.name.len() <= NAME && case.blob.len() <= BLOB);
+    let lengths = [case.name.len(), case.blob.len()].map(|length| length as u32);
+    let numbers = lengths.iter().chain(&case.capacities);
+    let mut record: Vec<u8> = numbers.flat_map(|number| number.to_le_bytes()).collect();
+    record.extend(case.name.as_bytes());
+    record.resize(48 + NAME, 0);
+    record.extend(&case.blob);
+    record.resize(RECORD, 0);
+    record
+}
+
+fn lines(case: &Case) -> String {
+    let Answer {
+        code,
+        field,
+        place,
+        first,
+        second,
+        lists,
+    } = &case.expected;
+    let mut lines = format!(
+        "{}: code {code} field {field} at {place}: {first}, {second}; counts",
+        case.name
+    );
+    for count in case.expected.counts() {
+        lines += &format!(" {count}");
+    }
+    lines += "\n";
+    for (number, list) in (1..).zip(lists).filter(|(_, list)| !list.is_empty()) {
+        lines += &format!("  list {number}:");
+        for word in list {
+            lines += &format!(" {word}");
+        }
+        lines += "\n";
+    }
+    lines
+}
