@@ -52,7 +52,11 @@ fn main() -> ExitCode {
     match written {
         Ok(()) => {
             let longest = cases.iter().map(|case| case.blob.len()).max();
-            println!("{} blobs, the longest of {longest:?} bytes", cases.len());
+            println!(
+                "{} blobs, the longest of {} bytes",
+                cases.len(),
+                longest.unwrap_or(0)
+            );
             ExitCode::SUCCESS
         }
         Err(error) => {
