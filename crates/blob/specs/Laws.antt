@@ -2,7 +2,7 @@
 use Prim.Native.Nat.{ℕ, zero, suc, _+_, _-_, _*_, _≤_, _<_}
 use mathlib.Core.Path.{_≡_, refl, ap, sym, _∙_}
 use mathlib.Core.List.{List, [], _∷_, _++_}
-use mathlib.Core.Bool.{Bool, true, false}
+use mathlib.Core.Bool.{Bool, true, false, _&&_}
 use native.Mathlib.Nat.{mul-zero, mul-suc}
 use native.Mathlib.Omega.{arith}
 use lib.ListN.{length, getD, length-append}
@@ -46,6 +46,11 @@ pub then-done : {A B : Type 0} (o : Outcome A) (f : A → Outcome B) (b : B) →
 unfolding then
 then-done (done a) f b e = (a, refl, e)
 then-done (refused r) f b e = absurd (never _ _ e)
+
+-- what two tests together tell
+pub both : (a b : Bool) → (a && b) ≡ true → (a ≡ true) × (b ≡ true)
+both true b e = (refl, e)
+both false b e = absurd (let z : _≡_ {A = ℕ} 0 1 = cc in omega arith)
 
 pub choose-done : {A : Type 0} (t : Bool) (o : Outcome A) (r : Refusal) (a : A) → choose t o (refused r) ≡ done a → (t ≡ true) × (o ≡ done a)
 choose-done true o r a e = (refl, e)

@@ -6,7 +6,7 @@ ghost use lib.ListN.{length};
 ghost use Rattle.blob.specs.Reading.{run, got, verdict};
 ghost use Rattle.format.specs.Refuse as refuse;
 ghost use Rattle.format.specs.Region as region;
-ghost use Rattle.format.specs.Needs.{capped};
+ghost use Rattle.format.specs.Answer.{capped};
 use blob::Refusal;
 use blob::Verdict;
 use format::EndRead;

@@ -8,8 +8,7 @@ use lib.Dec.{leb}
 use Rattle.blob.specs.Reading.{choose}
 use Rattle.blob.specs.declared.Verdict.{Verdict}
 use Rattle.blob.specs.declared.Verdict.the-variants as verdicts
-use Rattle.format.specs.Answer.{too-small}
-use Rattle.format.specs.Needs.{capped}
+use Rattle.format.specs.Answer.{too-small, capped}
 
 unfoldable pub short : ℕ → List ℕ → List ℕ → Verdict
 short n [] ks = verdicts.Fine

@@ -16,7 +16,8 @@ use Rattle.format.specs.Table.{CHAN, EVNT, KEYW, LEVL, MAPS, OPCO, TASK, TTBL, 
 use Rattle.format.specs.Definition.{step}
 use Rattle.format.specs.Provider.{Table, Element, table, unknown, descriptorAt, elementOf, elementAt, elementsFrom}
 use Rattle.format.specs.Lists.{lastOf, or-else, kept, unknowns, mapsIn}
-use Rattle.format.specs.Needs.{capped, entryCount, entriesAll, entriesOf, elementRead, elementsRead}
+use Rattle.format.specs.Answer.{capped}
+use Rattle.format.specs.Needs.{entryCount, entriesAll, entriesOf, elementRead, elementsRead}
 use Rattle.format.specs.declared.Descriptor.{Descriptor}
 use Rattle.format.specs.declared.EntriesRead.the-variants as entries
 use Rattle.format.specs.declared.ElementsRead.{ElementsRead}

@@ -9,7 +9,8 @@ use Rattle.blob.specs.declared.Verdict.the-variants as verdicts
 use Rattle.blob.specs.Reading.{run, verdict, values}
 use Rattle.format.specs.Provider.{Rows, definitions, events, maps, templates, Table, Element, elementsFrom}
 use Rattle.format.specs.Lists.{lastOf, written}
-use Rattle.format.specs.Needs.{capped, cappedWritten, small, with-table, writtenAll, placeOf}
+use Rattle.format.specs.Answer.{capped}
+use Rattle.format.specs.Needs.{cappedWritten, small, with-table, writtenAll, placeOf}
 use Rattle.format.specs.declared.Header.{Header}
 use Rattle.format.specs.declared.Written.{Written}
 use Rattle.element.specs.Kinds.{keptFrom, kept-more, kept-here, kept-nowhere}

@@ -1,8 +1,8 @@
--- The answer of a reading, and what the lent words then hold.
+-- The answer of a reading, what the lent words then hold, and what each list needs.
 -- "Order: 7, 8, then the first of 1 to 6 in reading order, then 9 for the lowest-numbered list needing more entries than its capacity,
 -- given exactly when the definition accepts and there is one. A refusal touches no lent word; on 0 the needed entries are written, all
 -- other words kept." (the answer)
-use Prim.Native.Nat.{ℕ, suc, _+_, _*_}
+use Prim.Native.Nat.{ℕ, suc, _+_, _*_, min}
 use mathlib.Core.Bool.{Bool, true, _&&_}
 use mathlib.Core.List.{List, [], _∷_}
 use lib.ListN.{length, getD}
@@ -92,6 +92,41 @@ answer (done c) =
     }
 answer (refused r) =
     record { code = r .code; field = r .field; place = r .place; first = r .first; second = r .second; counts = counted [] }
+
+-- what is read of lent bytes, whatever is lent for the lists
+unfoldable pub block : List ℕ → Outcome Crim
+block bytes = choose (leb (length bytes) 16777216) (crim bytes) (refused (own 7))
+
+-- "a number stops rising at 65,537" (what each list needs): no capacity is over 65,536, so no more is ever asked
+abbrev pub capped : ℕ → ℕ
+capped n = min n 65537
+
+abbrev pub cappedCounts : Counts → Counts
+cappedCounts c =
+    record {
+      providers = capped (c .providers);
+      descriptors = capped (c .descriptors);
+      unknown2 = capped (c .unknown2);
+      tables = capped (c .tables);
+      definitions = capped (c .definitions);
+      events = capped (c .events);
+      maps = capped (c .maps);
+      entries = capped (c .entries);
+      templates = capped (c .templates);
+      unknown = capped (c .unknown);
+    }
+
+-- the answer that tells what each list needs: its counts stop rising, and all else is as `answer` says
+unfoldable pub needing : Outcome Crim → Answer
+needing o =
+    record {
+      code = answer o .code;
+      field = answer o .field;
+      place = answer o .place;
+      first = answer o .first;
+      second = answer o .second;
+      counts = cappedCounts (answer o .counts);
+    }
 
 -- "One lent run of 32-bit words holds ten areas, each starting where the one before ends, in this order" (the lists): the words, with
 -- each list's entries laid from its area's start on

@@ -8,7 +8,7 @@ use Rattle.blob.specs.declared.Refusal.{Refusal}
 use Rattle.blob.specs.Reading.{done, refused}
 use Rattle.format.specs.Crim.{Crim}
 use Rattle.format.specs.Lists.{lists}
-use Rattle.format.specs.Answer.{ten, reading, answer, held}
+use Rattle.format.specs.Answer.{ten, reading, answer, needing, held}
 use Rattle.format.specs.declared.Counts.{Counts}
 use Rattle.format.specs.declared.Answer.{Answer}
 
@@ -34,3 +34,8 @@ refusal-counts-zero r = refl
 pub refusal-keeps : (words : List ℕ) (capacities : Counts) (r : Refusal) → held words capacities (refused r) ≡ words
 unfolding held
 refusal-keeps words capacities r = refl
+
+-- a refusal is told by the needs as by a reading
+pub needs-refused : (r : Refusal) → needing (refused r) ≡ answer (refused r)
+unfolding needing answer
+needs-refused r = refl

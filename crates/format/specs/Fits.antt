@@ -13,9 +13,9 @@ use Rattle.blob.specs.Laid.{flat, flat-single, flat-flat}
 use Rattle.format.specs.Map.{Mapped}
 use Rattle.format.specs.Provider.{Rows, Table, Provider}
 use Rattle.format.specs.Lists.{Entry, providerWords, descriptorWords, unknown2Words, definitionWords, eventWords, mapEntryWords, templateWords, unknownWords, kept, unknowns, Owned, ownedTables, ownedUnknowns, none-written, written, tableEntries, definitionsIn, eventsIn, mapsIn, templatesIn, mapList, lists}
-use Rattle.format.specs.Needs.{capped, writtenAll, entriesAll, cappedCounts, none, needsAll}
+use Rattle.format.specs.Needs.{writtenAll, entriesAll, none, needsAll}
 use Rattle.format.specs.Parts.{start, parts, passedAll}
-use Rattle.format.specs.Answer.{widths, counted}
+use Rattle.format.specs.Answer.{widths, counted, capped, cappedCounts}
 use Rattle.format.specs.Grows.{choose-either, passedAll-ahead, More, Grows}
 use Rattle.format.specs.Listed.{of-tables, entriesIn, itemized, lists-itemized, each-of-ten, listed}
 use Rattle.format.specs.Needed.{tables-written, entries-all, counted-numbers, needed}

@@ -36,3 +36,4 @@ pub mod Grows
 pub mod Listed
 pub mod Needed
 pub mod Fits
+pub mod Enough

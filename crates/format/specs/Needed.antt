@@ -9,8 +9,8 @@ use Rattle.blob.specs.Laid.{flat, flat-single}
 use Rattle.format.specs.Map.{Mapped}
 use Rattle.format.specs.Provider.{Rows, definitions, events, maps, templates, Table, Provider}
 use Rattle.format.specs.Lists.{kept, unknowns, Owned, ownedTables, ownedUnknowns, none-written, written, tableEntries, definitionsIn, eventsIn, mapsIn, templatesIn, mapList, lists}
-use Rattle.format.specs.Needs.{capped, entryCount, entriesAll, writtenAll, needsOf, plus, cappedCounts, none, needsAll}
-use Rattle.format.specs.Answer.{counted}
+use Rattle.format.specs.Needs.{entryCount, entriesAll, writtenAll, needsOf, plus, none, needsAll}
+use Rattle.format.specs.Answer.{counted, capped, cappedCounts}
 use Rattle.format.specs.Listed.{of-tables, entriesIn, lists-itemized}
 use Rattle.format.specs.declared.Written.{Written}
 use Rattle.format.specs.declared.Counts.{Counts}

@@ -1,5 +1,5 @@
 -- How many entries a list needs, as far as anyone asks: no capacity is over 65,536, so a need may stop rising once it is past that.
-use Prim.Native.Nat.{ℕ, _+_, _≤_, min}
+use Prim.Native.Nat.{ℕ, _+_, _≤_}
 use mathlib.Core.List.{List, [], _∷_}
 use lib.ListN.{length}
 use lib.Dec.{eqb}
@@ -8,6 +8,7 @@ use Rattle.format.specs.Table.{EVNT, MAPS, TTBL}
 use Rattle.format.specs.Map.{Mapped}
 use Rattle.format.specs.Provider.{Table, Element, table, unknown, Provider}
 use Rattle.format.specs.Lists.{lastOf, kept, unknowns, mapsIn, none-written, written}
+use Rattle.format.specs.Answer.{capped}
 use Rattle.format.specs.declared.EntriesRead.{EntriesRead}
 use Rattle.format.specs.declared.EntriesRead.the-variants as entries
 use Rattle.format.specs.declared.ElementsRead.{ElementsRead}
@@ -16,9 +17,6 @@ use Rattle.format.specs.declared.NeedsRead.{NeedsRead}
 use Rattle.format.specs.declared.NeedsRead.the-variants as needed
 use Rattle.format.specs.declared.Written.{Written}
 use Rattle.format.specs.declared.Counts.{Counts}
-
-abbrev pub capped : ℕ → ℕ
-capped n = min n 65537
 
 -- the entries of some maps, and of some tables' maps
 unfoldable pub entryCount : List Mapped → ℕ
@@ -117,21 +115,6 @@ plus a b =
       entries = capped (a .entries + b .entries);
       templates = capped (a .templates + b .templates);
       unknown = capped (a .unknown + b .unknown);
-    }
-
-abbrev pub cappedCounts : Counts → Counts
-cappedCounts c =
-    record {
-      providers = capped (c .providers);
-      descriptors = capped (c .descriptors);
-      unknown2 = capped (c .unknown2);
-      tables = capped (c .tables);
-      definitions = capped (c .definitions);
-      events = capped (c .events);
-      maps = capped (c .maps);
-      entries = capped (c .entries);
-      templates = capped (c .templates);
-      unknown = capped (c .unknown);
     }
 
 -- no number of it is past where it stops rising

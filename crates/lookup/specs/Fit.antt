@@ -10,6 +10,7 @@ use lib.Seq.{take-nil}
 use lib.Dec.{leb}
 use borrow.Author.Tests.{leb-true}
 use Rattle.blob.specs.Reading.{choose}
+use Rattle.blob.specs.Laws.{both}
 use Rattle.blob.specs.declared.Verdict.{Verdict}
 use Rattle.blob.specs.declared.Verdict.the-variants as verdicts
 use Rattle.format.specs.Answer.{too-small, moderate, areas, widths, ten, lent-enough}
@@ -34,11 +35,6 @@ room-fits n (k ∷ ns) (c ∷ cs) h = go (leb k c) (room-fits (suc n) ns cs (ome
         → fine (choose t (short (suc n) cs ns) (verdicts.Refused (too-small n c))) ≡ (t && counts-fit ns cs)
     go true ih = ih
     go false ih = refl
-
--- what two tests together tell
-pub both : (a b : Bool) → (a && b) ≡ true → (a ≡ true) × (b ≡ true)
-both true b e = (refl, e)
-both false b e = absurd (let z : _≡_ {A = ℕ} 0 1 = cc in omega arith)
 
 -- a list's entries end in its area
 pub area-holds : (ns cs ws : List ℕ) → length ns ≡ length cs → counts-fit ns cs ≡ true → (i : ℕ) → areas (take i cs) ws + getD ws i 0 * getD ns i 0 ≤ areas cs ws

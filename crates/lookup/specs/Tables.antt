@@ -9,6 +9,7 @@ use lib.ListN.{length, getD, take, drop}
 use lib.Dec.{eqb, leb, ltb}
 use borrow.Author.Tests.{eqb-true, leb-true}
 use Rattle.blob.specs.Reading.{choose}
+use Rattle.blob.specs.Laws.{both}
 use Rattle.blob.specs.Laid.{flat}
 use Rattle.format.specs.Lists.{Entry}
 use Rattle.format.specs.Answer.{ten}
@@ -17,7 +18,6 @@ use Rattle.format.specs.declared.Counts.{Counts}
 use Rattle.lookup.specs.declared.Found.the-variants as founds
 use Rattle.lookup.specs.declared.Run.{Run}
 use Rattle.lookup.specs.Entries.{part-entries, entry, entries-length}
-use Rattle.lookup.specs.Fit.{both}
 use Rattle.lookup.specs.Found.{entries, starts, found, tableOf, owned, position-same, starts-two}
 use Rattle.lookup.specs.Given.{position-found}
 

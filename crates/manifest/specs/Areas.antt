@@ -10,11 +10,11 @@ use lib.Dec.{leb}
 use borrow.Author.Tests.{leb-true}
 use Rattle.blob.specs.Reading.{done}
 use Rattle.blob.specs.Laid.{laid, flat}
-use Rattle.blob.specs.Laws.{choose-done}
+use Rattle.blob.specs.Laws.{both, choose-done}
 use Rattle.format.specs.Provider.{Provider}
 use Rattle.format.specs.Lists.{Entry, lists}
-use Rattle.format.specs.Answer.{widths, ten, moderate, areas, lent-enough, with-room, counted, filled}
-use Rattle.format.specs.Needs.{capped, cappedCounts, needsAll, none}
+use Rattle.format.specs.Answer.{widths, ten, moderate, areas, lent-enough, with-room, counted, filled, capped, cappedCounts}
+use Rattle.format.specs.Needs.{needsAll, none}
 use Rattle.format.specs.Needed.{needed}
 use Rattle.format.specs.Parts as parts
 use Rattle.format.specs.Fits.{Few, fits}
@@ -22,11 +22,6 @@ use Rattle.format.specs.Listed.{listed}
 use Rattle.format.specs.Grows.{passedAll-to}
 use Rattle.format.specs.declared.Counts.{Counts}
 use Rattle.manifest.specs.Read.{roomy}
-
--- what two tests together tell
-both : (a b : Bool) → (a && b) ≡ true → (a ≡ true) × (b ≡ true)
-both true b e = (refl, e)
-both false b e = absurd (let z : _≡_ {A = ℕ} 0 1 = cc in omega arith)
 
 -- a capacity among moderate ones
 capacity-most : (cs : List ℕ) → moderate cs ≡ true → (i : ℕ) → getD cs i 0 ≤ 65536

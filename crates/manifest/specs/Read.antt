@@ -11,7 +11,7 @@ use Rattle.blob.specs.declared.Refusal.{Refusal}
 use Rattle.blob.specs.declared.Verdict.{Verdict}
 use Rattle.blob.specs.declared.Verdict.the-variants as verdicts
 use Rattle.blob.specs.Reading.{Reading, Outcome, done, refused, choose, run, many, then, values}
-use Rattle.blob.specs.Laws.{run-room, run-past}
+use Rattle.blob.specs.Laws.{choose-done, run-room, run-past}
 use Rattle.blob.specs.Asks.{Finds, finds-got, finds-room, finds-demand, finds-next}
 use Rattle.format.specs.Field.{CRIM-provider-descriptor-array}
 use Rattle.format.specs.Refuse.{truncated}
@@ -19,8 +19,7 @@ use Rattle.format.specs.Definition.{step}
 use Rattle.format.specs.Provider.{Provider}
 use Rattle.format.specs.Crim.{Crim, header, crimRead, describedAt, providersOf, crim}
 use Rattle.format.specs.Lists.{Entry, lists}
-use Rattle.format.specs.Answer.{ten, own, too-small, moderate, lent-enough, with-room, reading}
-use Rattle.format.specs.Needs.{capped}
+use Rattle.format.specs.Answer.{ten, own, too-small, moderate, lent-enough, with-room, block, reading, capped}
 use Rattle.format.specs.declared.CrimHeader.{CrimHeader}
 use Rattle.format.specs.declared.CrimRead.the-variants as headers
 use Rattle.format.specs.declared.Counts.{Counts}
@@ -37,9 +36,26 @@ providersIn n s = values (run (providers n) s)
 abbrev pub roomy : Counts → List Provider → Type 0
 roomy c ps = with-room {A = ℕ} 1 (ten c) (lists ps) 0 ≡ done 0
 
--- what is read of the block behind its header
+-- what is read of the block behind its header, whatever is lent, and with capacities
+unfoldable pub blockOf : CrimHeader → List ℕ → Outcome Crim
+blockOf h s = then (run (providersOf h) s) (λ ps. done (record { header = h; providers = ps }))
+
 unfoldable pub blockReading : CrimHeader → List ℕ → Counts → Outcome Crim
 blockReading h s capacities = then (run (providersOf h) s) (λ ps. with-room 1 (ten capacities) (lists ps) (record { header = h; providers = ps }))
+
+module _ (bytes : List ℕ) where
+  pub block-long : 16777216 < length bytes → block bytes ≡ refused (own 7)
+  unfolding block
+  block-long h = rw (lt-leb _ _ h)
+
+  module _ (h : length bytes ≤ 16777216) where
+    pub block-headless : (r : Refusal) → run header bytes ≡ refused r → block bytes ≡ refused r
+    unfolding block crim then
+    block-headless r f = rw (le-leb _ _ h, f)
+
+    pub block-headed : (c : CrimHeader) → run header bytes ≡ done c → block bytes ≡ blockOf c (take (c .size) bytes)
+    unfolding block crim then blockOf
+    block-headed c f = rw (le-leb _ _ h, f)
 
 module _ (bytes words : List ℕ) (capacities : Counts) where
   pub too-long : 16777216 < length bytes → reading bytes words capacities ≡ refused (own 7)
@@ -95,20 +111,37 @@ header-sized s =
 pub sized : (s : List ℕ) (h : CrimHeader) → run header s ≡ done h → Sized s h
 sized s h e = header-sized s .found h e
 
-module _ (h : CrimHeader) (s : List ℕ) (capacities : Counts) where
-  pub block-cut : length s < 16 + 20 * h .count → blockReading h s capacities ≡ refused (truncated CRIM-provider-descriptor-array 16 (20 * h .count) (length s))
-  unfolding blockReading providersOf then
-  block-cut g = rw (run-past _ _ _ _ g)
+module _ (h : CrimHeader) (s : List ℕ) where
+  pub array-cut : length s < 16 + 20 * h .count → run (providersOf h) s ≡ refused (truncated CRIM-provider-descriptor-array 16 (20 * h .count) (length s))
+  unfolding providersOf
+  array-cut g = run-past _ _ _ _ g
 
-  module _ (g : 16 + 20 * h .count ≤ length s) where
-    pub block-refused : (r : Refusal) → run (providers (h .count)) s ≡ refused r → blockReading h s capacities ≡ refused r
-    unfolding blockReading providersOf then
-    block-refused r e = rw (run-room _ _ _ _ g, e)
+  pub array-whole : 16 + 20 * h .count ≤ length s → run (providersOf h) s ≡ run (providers (h .count)) s
+  unfolding providersOf
+  array-whole g = run-room _ _ _ _ g
 
-    pub block-read : (ps : List Provider) → run (providers (h .count)) s ≡ done ps
+  -- accepted providers: their array is whole
+  pub array-done : (ps : List Provider) → run (providersOf h) s ≡ done ps → (16 + 20 * h .count ≤ length s) × (run (providers (h .count)) s ≡ done ps)
+  unfolding providersOf run
+  array-done ps e = let d = choose-done (leb (16 + 20 * h .count) (length s)) _ _ ps e in (leb-true _ _ (d .0), d .1)
+
+  pub block-refused : (r : Refusal) → run (providersOf h) s ≡ refused r → blockOf h s ≡ refused r
+  unfolding blockOf then
+  block-refused r e = rw e
+
+  pub block-done : (ps : List Provider) → run (providersOf h) s ≡ done ps → blockOf h s ≡ done (record { header = h; providers = ps })
+  unfolding blockOf then
+  block-done ps e = rw e
+
+  module _ (capacities : Counts) where
+    pub reading-refused : (r : Refusal) → run (providersOf h) s ≡ refused r → blockReading h s capacities ≡ refused r
+    unfolding blockReading then
+    reading-refused r e = rw e
+
+    pub reading-done : (ps : List Provider) → run (providersOf h) s ≡ done ps
         → blockReading h s capacities ≡ with-room 1 (ten capacities) (lists ps) (record { header = h; providers = ps })
-    unfolding blockReading providersOf then
-    block-read ps e = rw (run-room _ _ _ _ g, e)
+    unfolding blockReading then
+    reading-done ps e = rw e
 
 -- what is accepted where each list has room
 abbrev pub by-verdict : {A : Type 0} → A → Verdict → Outcome A

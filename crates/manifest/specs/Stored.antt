@@ -11,14 +11,14 @@ use Rattle.blob.specs.Reading.{done, refused, run, verdict}
 use Rattle.blob.specs.Laws.{fine-done}
 use Rattle.format.specs.Provider.{Provider}
 use Rattle.format.specs.Lists.{lists}
-use Rattle.format.specs.Answer.{ten, moderate, with-room, counted}
-use Rattle.format.specs.Needs.{needsAll, none, cappedCounts}
+use Rattle.format.specs.Answer.{ten, moderate, with-room, counted, cappedCounts}
+use Rattle.format.specs.Needs.{needsAll, none}
 use Rattle.format.specs.Needed.{needed}
 use Rattle.format.specs.Fits.{Few, few-uncapped}
 use Rattle.format.specs.declared.CrimHeader.{CrimHeader}
 use Rattle.format.specs.declared.Counts.{Counts}
 use Rattle.counts.specs.Short.{short}
-use Rattle.manifest.specs.Read.{providers, providersIn, roomy, blockReading, block-read, by-verdict, room-decides}
+use Rattle.manifest.specs.Read.{providers, providersIn, roomy, blockReading, array-whole, reading-done, by-verdict, room-decides}
 use Rattle.manifest.specs.Areas.{ten-needs, few}
 
 capped-few : (c : Counts) → Few c → Few (cappedCounts c)
@@ -48,7 +48,7 @@ module _ (h : CrimHeader) (s : List ℕ) (c needs : Counts) (g : 16 + 20 * h .co
       ∙ ap (λ (ks : List ℕ). by-verdict a (short 1 (ten c) ks)) (sym (ap ten (e ∙ needed ps) ∙ ten-needs ps))
 
   read : blockReading h s c ≡ by-verdict (record { header = h; providers = ps }) (short 1 (ten c) (ten needs))
-  read = block-read h s c g ps (fine-done _ v) ∙ decided (record { header = h; providers = ps })
+  read = reading-done h s c ps (array-whole h s g ∙ fine-done _ v) ∙ decided (record { header = h; providers = ps })
 
   pub store-refused : (r : Refusal) → verdicts.Refused r ≡ short 1 (ten c) (ten needs) → blockReading h s c ≡ refused r
   store-refused r q = read ∙ ap (by-verdict (record { header = h; providers = ps })) (sym q)

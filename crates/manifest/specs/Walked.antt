@@ -11,7 +11,8 @@ use Rattle.blob.specs.Laws.{not-fine, told-more, many-refused, many-empty, many
 use Rattle.format.specs.Definition.{step}
 use Rattle.format.specs.Provider.{Provider}
 use Rattle.format.specs.Crim.{describedAt}
-use Rattle.format.specs.Needs.{capped, needsOf, plus, none, modest, needsAll, providerRead, providersRead}
+use Rattle.format.specs.Answer.{capped}
+use Rattle.format.specs.Needs.{needsOf, plus, none, modest, needsAll, providerRead, providersRead}
 use Rattle.format.specs.Parts.{fits, part, passed, parts, passedAll}
 use Rattle.format.specs.Grows.{passedAll-grows, passed-to, fits-before}
 use Rattle.format.specs.declared.Counts.{Counts}

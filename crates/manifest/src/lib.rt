@@ -7,10 +7,11 @@ ghost use lib.ListN.{length};
 ghost use Rattle.blob.specs.Reading.{run, refused, verdict};
 ghost use Rattle.blob.specs.Laid.{laid};
 ghost use Rattle.format.specs.Answer as spec;
+ghost use Rattle.format.specs.Crim.{providersOf};
 ghost use Rattle.format.specs.Lists.{lists};
 ghost use Rattle.format.specs.Needs as need;
 ghost use Rattle.format.specs.Parts as parts;
-ghost use Rattle.manifest.specs.Read.{providers, providersIn, roomy, blockReading};
+ghost use Rattle.manifest.specs.Read.{providers, providersIn, roomy, blockOf, blockReading};
 use blob::Refusal;
 use blob::Verdict;
 use format::Answer;
@@ -21,6 +22,9 @@ use format::NeedsRead;
 use format::Walk;
 use format::Written;
 use format::field::CRIM_PROVIDER_DESCRIPTOR_ARRAY;
+
+// The longest lent bytes that are read.
+const LONGEST: usize = 16777216;
 
 // Where the CRIM walk stands: the place of the next provider's descriptor, how many are left, and what those before it need.
 pub struct Position {
@@ -220,17 +224,25 @@ fn store(b: &[u8], h: CrimHeader, needs: Counts, words: &mut [u32], capacities: 
     }
 }
 
+// Whether the block behind its header is fine, and what each list needs for it.
+fn check_block(b: &[u8], h: CrimHeader) -> NeedsRead
+    requires { ⌜ (16 ≤ length (now b)) × (length (now b) ≤ 16777216) ⌝ }
+    ensures { λ r. ⌜ r ≡ need.providersRead (run (providersOf h) (now (b .entry))) ⌝ }
+{
+    let bytes = 20 * (h.count as usize);
+    if b.len() - 16 < bytes {
+        return NeedsRead::Refused(bounds::truncated(b, CRIM_PROVIDER_DESCRIPTOR_ARRAY, 16, bytes));
+    }
+    check(b, h.count)
+}
+
 // Reads the block behind its header.
 fn read_block(b: &[u8], h: CrimHeader, words: &mut [u32], capacities: Counts) -> Answer
     requires { ⌜ (16 ≤ length (now b)) × (length (now b) ≤ 16777216) × (spec.lent-enough capacities (now words) ≡ true) ⌝ }
     ensures { λ r. ⌜ r ≡ spec.answer (blockReading h (now (b .entry)) capacities) ⌝ }
     ensures { λ _. ⌜ now (words .exit) ≡ spec.held (now (words .entry)) capacities (blockReading h (now (b .entry)) capacities) ⌝ }
 {
-    let bytes = 20 * (h.count as usize);
-    if b.len() - 16 < bytes {
-        return refuse(bounds::truncated(b, CRIM_PROVIDER_DESCRIPTOR_ARRAY, 16, bytes));
-    }
-    match check(b, h.count) {
+    match check_block(b, h) {
         NeedsRead::Refused(r) => refuse(r),
         NeedsRead::Needs(needs) => store(b, h, needs, words, capacities),
     }
@@ -241,7 +253,7 @@ pub fn read(bytes: &[u8], words: &mut [u32], capacities: Counts) -> Answer
     ensures { λ r. ⌜ r ≡ spec.answer (spec.reading (now (bytes .entry)) (now (words .entry)) capacities) ⌝ }
     ensures { λ _. ⌜ now (words .exit) ≡ spec.held (now (words .entry)) capacities (spec.reading (now (bytes .entry)) (now (words .entry)) capacities) ⌝ }
 {
-    if 16777216 < bytes.len() {
+    if LONGEST < bytes.len() {
         return own(7);
     }
     if !counts::lent_enough(capacities, words.len()) {
@@ -252,6 +264,33 @@ pub fn read(bytes: &[u8], words: &mut [u32], capacities: Counts) -> Answer
         CrimRead::Header(h) => {
             let size = h.size as usize;
             read_block(&bytes[..size], h, words, capacities)
+        }
+    }
+}
+
+// What the block behind its header needs.
+fn needs_block(b: &[u8], h: CrimHeader) -> Answer
+    requires { ⌜ (16 ≤ length (now b)) × (length (now b) ≤ 16777216) ⌝ }
+    ensures { λ r. ⌜ r ≡ spec.needing (blockOf h (now (b .entry))) ⌝ }
+{
+    match check_block(b, h) {
+        NeedsRead::Refused(refusal) => refuse(refusal),
+        NeedsRead::Needs(needs) => accept(h, needs),
+    }
+}
+
+// What each list needs for the CRIM block in lent bytes, as its counts; a number stops rising at 65,537.
+pub fn needs(bytes: &[u8]) -> Answer
+    ensures { λ r. ⌜ r ≡ spec.needing (spec.block (now (bytes .entry))) ⌝ }
+{
+    if LONGEST < bytes.len() {
+        return own(7);
+    }
+    match crim::header(bytes) {
+        CrimRead::Refused(r) => refuse(r),
+        CrimRead::Header(h) => {
+            let size = h.size as usize;
+            needs_block(&bytes[..size], h)
         }
     }
 }

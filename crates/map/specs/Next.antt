@@ -11,7 +11,8 @@ use Rattle.blob.specs.Reading.{Outcome, done, refused, run, many, verdict, valu
 use Rattle.blob.specs.Laws.{not-fine, many-more, many-stop, many-length, values-more, values-none, fill-more, told-more, length-flat}
 use Rattle.format.specs.Definition.{step}
 use Rattle.format.specs.Map.{Mapped, entryAt, mapRead}
-use Rattle.format.specs.Needs.{capped, entryCount, mapsRead}
+use Rattle.format.specs.Answer.{capped}
+use Rattle.format.specs.Needs.{entryCount, mapsRead}
 use Rattle.format.specs.Lists.{mapWords, mapEntryWords, mapList}
 use Rattle.format.specs.declared.Map.{Map}
 use Rattle.format.specs.declared.MapRead.the-variants as read

@@ -125,11 +125,6 @@ unfolding below
 less zero h = omega arith
 less (suc u) h = omega arith
 
--- two tests that both hold
-pub both : (a b : Bool) → (a && b) ≡ true → (a ≡ true) × (b ≡ true)
-both true b p = (refl, p)
-both false b p = (p, (cc))
-
 low-unit : (u : ℕ) → below u < 0xD7FF → (0 < u) × (u < 0xD800)
 unfolding below
 low-unit zero h = absurd (omega arith)

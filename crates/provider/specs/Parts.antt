@@ -22,7 +22,8 @@ use Rattle.format.specs.Definition.{guidAt, step}
 use Rattle.format.specs.Provider.{Element, wevtAt, wevtRead, descriptorAt, elementAt, elementsFrom, providerAt}
 use Rattle.format.specs.Crim.{describedAt}
 use Rattle.format.specs.Lists.{kept, lastOf, unknowns}
-use Rattle.format.specs.Needs.{capped, entriesAll, elementsRead, tablesOf, cappedWritten, plus, none, providerRead}
+use Rattle.format.specs.Answer.{capped}
+use Rattle.format.specs.Needs.{entriesAll, elementsRead, tablesOf, cappedWritten, plus, none, providerRead}
 use Rattle.format.specs.declared.Guid.{Guid}
 use Rattle.format.specs.declared.Descriptor.{Descriptor}
 use Rattle.format.specs.declared.Wevt.{Wevt}

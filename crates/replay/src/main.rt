@@ -219,7 +219,7 @@ fn replay_blob(number: u64, blob: &[u8]) -> bool {
     }
     let mut words = [KEPT; WORDS];
     let mut answer = [0u64; 15];
-    export::ducat_read(blob, &mut words, &[CAPACITY; 10], &mut answer);
+    ducatfeather::ducat_read(blob, &mut words, &[CAPACITY; 10], &mut answer);
     if !same_numbers(number, &answer, &numbers(&told)) {
         return false;
     }

@@ -10,9 +10,10 @@ use borrow.Author.Tests.{leb-true, ltb-true}
 use lib.Dec.{leb}
 use lib.ListN.{length}
 use Rattle.blob.specs.Reading.{run}
+use Rattle.blob.specs.Laws.{both}
 use Rattle.format.specs.declared.NameRead.the-variants as read
 use Rattle.format.specs.Name.{text, nameRead}
-use Rattle.name.specs.Text.{text-none, text-zero, text-below, text-above, text-pair, text-unpaired, text-four, pairs-two, both}
+use Rattle.name.specs.Text.{text-none, text-zero, text-below, text-above, text-pair, text-unpaired, text-four, pairs-two}
 use Rattle.name.proofs.units.Statement.{statement}
 use Rattle.name.proofs.units.Tie as tie
 

@@ -2,7 +2,7 @@
 use Prim.Native.Nat.{_+_}
 use mathlib.Core.Path.{ap, _∙_}
 use Rattle.blob.specs.Reading.{verdict}
-use Rattle.format.specs.Needs.{capped}
+use Rattle.format.specs.Answer.{capped}
 use Rattle.provider.specs.Parts.{counted, fine-elements}
 use borrow.Author.Needs.{needs}
 use Rattle.provider.proofs.needs_of.Statement.{statement}

@@ -1,0 +1,51 @@
+-- A call that misfits is refused and touches nothing; any other is the reading.
+use borrow.Author.Tests.{eq-eqb, ne-eqb}
+use Rattle.ducatfeather.specs.Call.{called}
+use Rattle.ducatfeather.specs.Laws.{misfit-keeps}
+use borrow.Author.Needs.{needs}
+use Rattle.ducatfeather.proofs.read.Statement.{statement}
+use Rattle.ducatfeather.proofs.read.Tie as tie
+
+refusal-requires : tie.Need-refusal-requires
+refusal-requires c κs = search needs
+
+returns : tie.Need-returns
+unfolding called
+returns c = simp (ne-eqb _ _ (c .before .if1 .taken)) (c .refusal .ensures, misfit-keeps _ _ (c .before .before .before .before .before .args .blob .now))
+
+refusal-requires-2 : tie.Need-refusal-requires-2
+refusal-requires-2 c κs = search needs
+
+returns-2 : tie.Need-returns-2
+unfolding called
+returns-2 c = simp (eq-eqb _ _ (c .before .before .if1 .left), ne-eqb _ _ (c .before .if2 .taken)) (c .refusal2 .ensures, misfit-keeps _ _ (c .before .before .before .before .before .before .args .blob .now))
+
+for-lists-requires : tie.Need-for-lists-requires
+for-lists-requires c κs = search needs
+
+read-requires : tie.Need-read-requires
+read-requires c κs = search needs
+
+same-length : tie.Need-same-length
+same-length c = search needs
+
+returns-3 : tie.Need-returns-3
+unfolding called
+returns-3 c =
+    let r = c .before .before in
+    let i = r .before .before .before in
+    let k = r .before .for-lists .ensures in
+    simp (eq-eqb _ _ (i .before .if1 .left), eq-eqb _ _ (i .if2 .left)) (rw k at (r .read .ensures .0), rw k at (r .read .ensures .1))
+
+pub read-spec : {M : Type 1} → statement M
+read-spec =
+    tie.close
+    (tie.spec
+    refusal-requires
+    returns
+    refusal-requires-2
+    returns-2
+    for-lists-requires
+    read-requires
+    same-length
+    returns-3)

@@ -1,0 +1,20 @@
+use mathlib.Core.Path.{_∙_}
+use borrow.Author.Tests.{le-leb, lt-leb}
+use borrow.Author.Needs.{needs}
+use Rattle.ducatfeather.proofs.refusal.Statement.{statement}
+use Rattle.ducatfeather.proofs.refusal.Tie as tie
+
+own-requires : tie.Need-own-requires
+own-requires c κs = search needs
+
+returns : tie.Need-returns
+returns c = c .own .ensures ∙ simp (lt-leb _ _ (c .before .if1 .taken))
+
+own-requires-2 : tie.Need-own-requires-2
+own-requires-2 c κs = search needs
+
+returns-2 : tie.Need-returns-2
+returns-2 c = c .own2 .ensures ∙ simp (le-leb _ _ (c .before .if1 .left))
+
+pub refusal-spec : {M : Type 1} → statement M
+refusal-spec = tie.close (tie.spec own-requires returns own-requires-2 returns-2)

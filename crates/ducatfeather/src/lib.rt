@@ -1,0 +1,354 @@
+// The C boundary: `read`, `needs` and the lookups over lent runs of numbers.
+ghost use mathlib.Core.Path.{_≡_};
+ghost use lib.ListN.{length, getD};
+ghost use Rattle.blob.specs.Reading.{refused};
+ghost use Rattle.format.specs.Answer as spec;
+ghost use Rattle.format.specs.Lookup as right;
+ghost use Rattle.ducatfeather.specs.Call as call;
+ghost use Rattle.ducatfeather.specs.Call.{for-lists, called};
+use blob::Refusal;
+use format::Answer;
+use format::Counts;
+use format::Guid;
+use format::GuidsFound;
+use format::Key;
+use format::TemplateFound;
+
+// The longest lent bytes that are read.
+const LONGEST: usize = 16777216;
+
+// Ten numbers in list order, as capacities or counts.
+fn for_lists(numbers: &[u32]) -> Counts
+    requires { ⌜ length (now numbers) ≡ 10 ⌝ }
+    ensures { λ r. ⌜ r ≡ for-lists (now (numbers .entry)) ⌝ }
+{
+    Counts {
+        providers: numbers[0],
+        descriptors: numbers[1],
+        unknown2: numbers[2],
+        tables: numbers[3],
+        definitions: numbers[4],
+        events: numbers[5],
+        maps: numbers[6],
+        entries: numbers[7],
+        templates: numbers[8],
+        unknown: numbers[9],
+    }
+}
+
+// A refusal with a code of the port's own.
+fn own(code: u8) -> Answer
+    ensures { λ r. ⌜ r ≡ spec.answer (refused (spec.own code)) ⌝ }
+{
+    Answer {
+        code,
+        field: 0,
+        place: 0,
+        first: 0,
+        second: 0,
+        counts: Counts {
+            providers: 0,
+            descriptors: 0,
+            unknown2: 0,
+            tables: 0,
+            definitions: 0,
+            events: 0,
+            maps: 0,
+            entries: 0,
+            templates: 0,
+            unknown: 0,
+        },
+    }
+}
+
+// The answer where the capacities are not ten, or the numbers not fifteen.
+fn refusal(blob: &[u8]) -> Answer
+    ensures { λ r. ⌜ r ≡ spec.answer (call.misfit (now (blob .entry))) ⌝ }
+{
+    if LONGEST < blob.len() {
+        return own(7);
+    }
+    own(8)
+}
+
+// The answer, with n numbers to store it in.
+fn read(blob: &[u8], words: &mut [u32], capacities: &[u32], n: usize) -> Answer
+    ensures { λ r. ⌜ r ≡ spec.answer (called (now (blob .entry)) (now (words .entry)) (now (capacities .entry)) n) ⌝ }
+    ensures { λ _. ⌜ now (words .exit) ≡ spec.held (now (words .entry)) (for-lists (now (capacities .entry))) (called (now (blob .entry)) (now (words .entry)) (now (capacities .entry)) n) ⌝ }
+{
+    if capacities.len() != 10 {
+        return refusal(blob);
+    }
+    if n != 15 {
+        return refusal(blob);
+    }
+    manifest::read(blob, words, for_lists(capacities))
+}
+
+// The fifteen numbers of an answer.
+fn numbers(a: Answer) -> [u64; 15]
+    ensures { λ r. ⌜ r ≡ call.numbers a ⌝ }
+{
+    let c = a.counts;
+    [
+        a.code as u64,
+        a.field as u64,
+        a.place,
+        a.first,
+        a.second,
+        c.providers as u64,
+        c.descriptors as u64,
+        c.unknown2 as u64,
+        c.tables as u64,
+        c.definitions as u64,
+        c.events as u64,
+        c.maps as u64,
+        c.entries as u64,
+        c.templates as u64,
+        c.unknown as u64,
+    ]
+}
+
+// Stores an answer's numbers where as many are lent.
+fn tell(lent: &mut [u64], told: &[u64])
+    ensures { λ _. ⌜ now (lent .exit) ≡ call.told (now (lent .entry)) (now (told .entry)) ⌝ }
+{
+    if lent.len() != told.len() {
+        return;
+    }
+    let mut i = 0;
+    while i < told.len() {
+        lent[i] = told[i];
+        i += 1;
+    }
+}
+
+// Reads the block in a lent blob into lent words; include/ducatfeather.h says it in C.
+#[no_mangle]
+pub extern "C" fn ducat_read(
+    blob: &[u8],
+    words: &mut [u32],
+    capacities: &[u32],
+    answer: &mut [u64],
+) -> u32
+    ensures { λ r. ⌜ r ≡ spec.answer (called (now (blob .entry)) (now (words .entry)) (now (capacities .entry)) (length (now (answer .entry)))) .code ⌝ }
+    ensures { λ _. ⌜ now (answer .exit) ≡ call.told (now (answer .entry)) (call.numbers (spec.answer (called (now (blob .entry)) (now (words .entry)) (now (capacities .entry)) (length (now (answer .entry)))))) ⌝ }
+    ensures { λ _. ⌜ now (words .exit) ≡ spec.held (now (words .entry)) (for-lists (now (capacities .entry))) (called (now (blob .entry)) (now (words .entry)) (now (capacities .entry)) (length (now (answer .entry)))) ⌝ }
+{
+    let a = read(blob, words, capacities, answer.len());
+    tell(answer, &numbers(a));
+    a.code as u32
+}
+
+// What each list needs, with n numbers to store the answer in.
+fn needs(blob: &[u8], n: usize) -> Answer
+    ensures { λ r. ⌜ r ≡ spec.needing (call.calledNeeds (now (blob .entry)) n) ⌝ }
+{
+    if n == 15 {
+        return manifest::needs(blob);
+    }
+    refusal(blob)
+}
+
+// Says what each list needs for the block in a lent blob.
+#[no_mangle]
+pub extern "C" fn ducat_needs(blob: &[u8], answer: &mut [u64]) -> u32
+    ensures { λ r. ⌜ r ≡ spec.needing (call.calledNeeds (now (blob .entry)) (length (now (answer .entry)))) .code ⌝ }
+    ensures { λ _. ⌜ now (answer .exit) ≡ call.told (now (answer .entry)) (call.numbers (spec.needing (call.calledNeeds (now (blob .entry)) (length (now (answer .entry)))))) ⌝ }
+{
+    let a = needs(blob, answer.len());
+    tell(answer, &numbers(a));
+    a.code as u32
+}
+
+// A lookup's refusal where some lent run has another length than is expected.
+fn misfit() -> Refusal
+    ensures { λ r. ⌜ r ≡ spec.own 8 ⌝ }
+{
+    Refusal {
+        code: 8,
+        field: 0,
+        place: 0,
+        first: 0,
+        second: 0,
+    }
+}
+
+// Whether there are ten capacities and ten counts.
+fn ten_each(capacities: &[u32], counts: &[u32]) -> bool
+    ensures { λ r. ⌜ r ≡ call.ten-each (now (capacities .entry)) (now (counts .entry)) ⌝ }
+{
+    if capacities.len() != 10 {
+        return false;
+    }
+    counts.len() == 10
+}
+
+// The template at an offset, with n numbers to store the answer in.
+fn template_at(
+    words: &[u32],
+    capacities: &[u32],
+    counts: &[u32],
+    first: u32,
+    count: u32,
+    offset: u32,
+    n: usize,
+) -> TemplateFound
+    ensures { λ r. ⌜ r ≡ call.calledAt (now (words .entry)) (now (capacities .entry)) (now (counts .entry)) first count offset n ⌝ }
+{
+    if !ten_each(capacities, counts) {
+        return TemplateFound::Refused(misfit());
+    }
+    if n != 6 {
+        return TemplateFound::Refused(misfit());
+    }
+    lookup::template_at(
+        words,
+        for_lists(capacities),
+        for_lists(counts),
+        first,
+        count,
+        offset,
+    )
+}
+
+// Its six numbers.
+fn template_numbers(f: TemplateFound) -> [u64; 6]
+    ensures { λ r. ⌜ r ≡ call.templateNumbers f ⌝ }
+{
+    match f {
+        TemplateFound::Number(n) => [0, 0, 0, 0, 1, n as u64],
+        TemplateFound::Nothing => [0, 0, 0, 0, 0, 0],
+        TemplateFound::Refused(r) => [r.code as u64, r.place, r.first, r.second, 0, 0],
+    }
+}
+
+// Its code.
+fn template_code(f: TemplateFound) -> u32
+    ensures { λ r. ⌜ r ≡ getD (call.templateNumbers f) 0 0 ⌝ }
+{
+    match f {
+        TemplateFound::Number(_) => 0,
+        TemplateFound::Nothing => 0,
+        TemplateFound::Refused(r) => r.code as u32,
+    }
+}
+
+// Finds the lowest template at an offset in a range of list 9.
+#[no_mangle]
+pub extern "C" fn ducat_template_at(
+    words: &[u32],
+    capacities: &[u32],
+    counts: &[u32],
+    first: u32,
+    count: u32,
+    offset: u32,
+    answer: &mut [u64],
+) -> u32
+    ensures { λ r. ⌜ r ≡ getD (call.templateNumbers (call.calledAt (now (words .entry)) (now (capacities .entry)) (now (counts .entry)) first count offset (length (now (answer .entry))))) 0 0 ⌝ }
+    ensures { λ _. ⌜ now (answer .exit) ≡ call.told (now (answer .entry)) (call.templateNumbers (call.calledAt (now (words .entry)) (now (capacities .entry)) (now (counts .entry)) first count offset (length (now (answer .entry))))) ⌝ }
+{
+    let f = template_at(
+        words,
+        capacities,
+        counts,
+        first,
+        count,
+        offset,
+        answer.len(),
+    );
+    tell(answer, &template_numbers(f));
+    template_code(f)
+}
+
+// A key of twelve words.
+fn key_of(numbers: &[u32]) -> Key
+    requires { ⌜ length (now numbers) ≡ 12 ⌝ }
+    ensures { λ r. ⌜ r ≡ call.key-of (now (numbers .entry)) ⌝ }
+{
+    Key {
+        guid: Guid {
+            a: numbers[0],
+            b: numbers[1],
+            c: numbers[2],
+            d: numbers[3],
+        },
+        identifier: numbers[4],
+        version: numbers[5],
+        channel: numbers[6],
+        level: numbers[7],
+        opcode: numbers[8],
+        task: numbers[9],
+        low: numbers[10],
+        high: numbers[11],
+    }
+}
+
+// The GUIDs of the templates for a key, with n numbers to store the answer in.
+fn templates_for(
+    words: &[u32],
+    capacities: &[u32],
+    counts: &[u32],
+    key: &[u32],
+    guids: &mut [u32],
+    n: usize,
+) -> GuidsFound
+    ensures { λ r. ⌜ r ≡ right.guidsFound (call.calledFor (now (words .entry)) (now (capacities .entry)) (now (counts .entry)) (now (key .entry)) (now (guids .entry)) n) ⌝ }
+    ensures { λ _. ⌜ now (guids .exit) ≡ right.guidsHeld (now (guids .entry)) (call.calledFor (now (words .entry)) (now (capacities .entry)) (now (counts .entry)) (now (key .entry)) (now (guids .entry)) n) ⌝ }
+{
+    if !ten_each(capacities, counts) {
+        return GuidsFound::Refused(misfit());
+    }
+    if key.len() != 12 {
+        return GuidsFound::Refused(misfit());
+    }
+    if n != 5 {
+        return GuidsFound::Refused(misfit());
+    }
+    lookup::templates_for(
+        words,
+        for_lists(capacities),
+        for_lists(counts),
+        key_of(key),
+        guids,
+    )
+}
+
+// Its five numbers.
+fn guid_numbers(f: GuidsFound) -> [u64; 5]
+    ensures { λ r. ⌜ r ≡ call.guidNumbers f ⌝ }
+{
+    match f {
+        GuidsFound::Given(n) => [0, 0, 0, 0, n as u64],
+        GuidsFound::Refused(r) => [r.code as u64, r.place, r.first, r.second, 0],
+    }
+}
+
+// Its code.
+fn guid_code(f: GuidsFound) -> u32
+    ensures { λ r. ⌜ r ≡ getD (call.guidNumbers f) 0 0 ⌝ }
+{
+    match f {
+        GuidsFound::Given(_) => 0,
+        GuidsFound::Refused(r) => r.code as u32,
+    }
+}
+
+// Gives the GUIDs of the templates of the events with a key, each once.
+#[no_mangle]
+pub extern "C" fn ducat_templates_for(
+    words: &[u32],
+    capacities: &[u32],
+    counts: &[u32],
+    key: &[u32],
+    guids: &mut [u32],
+    answer: &mut [u64],
+) -> u32
+    ensures { λ r. ⌜ r ≡ getD (call.guidNumbers (right.guidsFound (call.calledFor (now (words .entry)) (now (capacities .entry)) (now (counts .entry)) (now (key .entry)) (now (guids .entry)) (length (now (answer .entry)))))) 0 0 ⌝ }
+    ensures { λ _. ⌜ now (answer .exit) ≡ call.told (now (answer .entry)) (call.guidNumbers (right.guidsFound (call.calledFor (now (words .entry)) (now (capacities .entry)) (now (counts .entry)) (now (key .entry)) (now (guids .entry)) (length (now (answer .entry)))))) ⌝ }
+    ensures { λ _. ⌜ now (guids .exit) ≡ right.guidsHeld (now (guids .entry)) (call.calledFor (now (words .entry)) (now (capacities .entry)) (now (counts .entry)) (now (key .entry)) (now (guids .entry)) (length (now (answer .entry)))) ⌝ }
+{
+    let f = templates_for(words, capacities, counts, key, guids, answer.len());
+    tell(answer, &guid_numbers(f));
+    guid_code(f)
+}

@@ -1,0 +1,43 @@
+-- The array, then the providers.
+use Prim.Native.Nat.{_+_, _*_, _≤_}
+use mathlib.Core.Path.{ap, sym, _∙_}
+use native.Mathlib.Omega.{arith}
+use lib.ListN.{length}
+use Rattle.format.specs.Needs.{providersRead}
+use Rattle.format.specs.declared.NeedsRead.the-variants as needed
+use Rattle.manifest.specs.Read.{array-cut, array-whole}
+use borrow.Author.Needs.{needs}
+use Rattle.manifest.proofs.check_block.Statement.{statement}
+use Rattle.manifest.proofs.check_block.Tie as tie
+
+cast-bytes : tie.Need-cast-bytes
+cast-bytes c = search needs
+
+mul-bytes : tie.Need-mul-bytes
+mul-bytes c = search needs
+
+sub-if1 : tie.Need-sub-if1
+sub-if1 c = search needs
+
+truncated-requires : tie.Need-truncated-requires
+truncated-requires c κs = search needs
+
+returns : tie.Need-returns
+returns c =
+    let i = c .before in
+    let o = i .before .before .before in
+    let x = array-cut (o .args .h) (o .args .b .now) (omega (arith, i .if1 .taken, o .pre .0)) in
+    ap needed.Refused (c .truncated .ensures) ∙ sym (ap providersRead x)
+
+check-requires : tie.Need-check-requires
+check-requires c κs = search needs
+
+returns-2 : tie.Need-returns-2
+returns-2 c =
+    let i = c .before in
+    let o = i .before .before .before in
+    let g : 16 + 20 * o .args .h .count ≤ length (o .args .b .now) = omega (arith, i .if1 .left, o .pre .0) in
+    c .check .ensures ∙ sym (ap providersRead (array-whole (o .args .h) (o .args .b .now) g))
+
+pub check-block-spec : {M : Type 1} → statement M
+check-block-spec = tie.close (tie.spec cast-bytes mul-bytes sub-if1 truncated-requires returns check-requires returns-2)

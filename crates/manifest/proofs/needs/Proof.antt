@@ -1,0 +1,83 @@
+-- 7, then what the header and the block behind it give.
+use mathlib.Core.Path.{ap, sym, _∙_}
+use native.Mathlib.Omega.{arith}
+use lib.ListN.{length-take}
+use Rattle.blob.specs.Reading.{run}
+use Rattle.format.specs.Crim.{header}
+use Rattle.format.specs.Answer.{needing}
+use Rattle.format.specs.Determined.{needs-refused}
+use Rattle.manifest.specs.Read.{block-long, block-headless, block-headed, is-header, no-header-read, sized}
+use borrow.Author.Needs.{needs}
+use Rattle.manifest.proofs.needs.Statement.{statement}
+use Rattle.manifest.proofs.needs.Tie as tie
+
+own-requires : tie.Need-own-requires
+own-requires c κs = search needs
+
+returns : tie.Need-returns
+returns c =
+    let x = block-long (c .before .before .before .args .bytes .now) (c .before .if1 .taken) in
+    c .own .ensures ∙ sym (needs-refused _) ∙ ap needing (sym x)
+
+header-requires : tie.Need-header-requires
+header-requires c κs = search needs
+
+enum-known-r : tie.Need-enum-known-r
+enum-known-r c = search needs
+
+refuse-requires : tie.Need-refuse-requires
+refuse-requires c κs = search needs
+
+enum-known-h : tie.Need-enum-known-h
+enum-known-h c = search needs
+
+cast-size : tie.Need-cast-size
+cast-size c = search needs
+
+slice-aggregate-needs-block : tie.Need-slice-aggregate-needs-block
+slice-aggregate-needs-block c =
+    let d = c .before .before .before in
+    let k = d .before .before in
+    let o = k .before .before .before in
+    let z = sized (o .args .bytes .now) _ (is-header (run header (o .args .bytes .now)) _ (sym (d .h .given .1) ∙ k .header .ensures)) in
+    simp length-take (omega (arith, z .lent))
+
+needs-block-requires : tie.Need-needs-block-requires
+needs-block-requires c κs =
+    let d = c .before .before .before in
+    let k = d .before .before in
+    let o = k .before .before .before in
+    let z = sized (o .args .bytes .now) _ (is-header (run header (o .args .bytes .now)) _ (sym (d .h .given .1) ∙ k .header .ensures)) in
+    (simp length-take (omega (arith, z .lent, z .least)), simp length-take (omega (arith, k .before .if1 .left)))
+
+returns-2 : tie.Need-returns-2
+returns-2 c =
+    let d = c .before .before in
+    let k = d .before .before in
+    let o = k .before .before .before in
+    let x = block-headless (o .args .bytes .now) (omega (arith, k .before .if1 .left)) _ (no-header-read (run header (o .args .bytes .now)) _ (sym (d .r .given .1) ∙ k .header .ensures)) in
+    c .refuse .ensures ∙ sym (needs-refused _) ∙ ap needing (sym x)
+
+returns-3 : tie.Need-returns-3
+returns-3 c =
+    let d = c .before .before .before .before in
+    let k = d .before .before in
+    let o = k .before .before .before in
+    let x = block-headed (o .args .bytes .now) (omega (arith, k .before .if1 .left)) _ (is-header (run header (o .args .bytes .now)) _ (sym (d .h .given .1) ∙ k .header .ensures)) in
+    c .needs-block .ensures ∙ ap needing (sym x)
+
+pub needs-spec : {M : Type 1} → statement M
+needs-spec =
+    tie.close
+    (tie.spec
+    own-requires
+    returns
+    header-requires
+    enum-known-r
+    refuse-requires
+    enum-known-h
+    cast-size
+    slice-aggregate-needs-block
+    needs-block-requires
+    returns-2
+    returns-3)
