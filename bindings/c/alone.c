@@ -1,0 +1,3 @@
+/* The header by itself, and once more. */
+#include "ducatfeather.h"
+#include "ducatfeather.h"

@@ -1,0 +1,138 @@
+/* ducat_templates_for. */
+#include "check.h"
+#include "lists.h"
+#include "tests.h"
+
+#include <stdlib.h>
+#include <string.h>
+
+/* What the lent GUIDs hold before, and how many words of them there are. */
+enum { KEPT_GUID = 0x5a5a5a5a, GUIDS_LENT = 2 * DUCAT_GUID_WORDS + 2 };
+
+static uint64_t answer[DUCAT_GUIDS_NUMBERS + 1];
+static uint32_t guids[GUIDS_LENT];
+
+/* Looks templates up by the key of events 1001 of provider 5, and gives the code. */
+static uint32_t look(const struct lists *l, size_t key_len, uint32_t *lent, size_t lent_len, size_t answer_len) {
+    const struct ducat_key key = {guid_of(5), 1001, 2, 3, 4, 5, 6, 7, 8};
+    uint32_t words[DUCAT_KEY_WORDS + 1] = {0};
+    memcpy(words, &key, sizeof key);
+    memset(answer, 0xff, sizeof answer);
+    return ducat_templates_for(l->words, l->words_len, l->capacities, l->capacities_len, l->counts, l->counts_len, words, key_len,
+                               lent, lent_len, answer, answer_len);
+}
+
+static uint32_t look_for(const struct lists *l, size_t guids_len) {
+    for (int i = 0; i < GUIDS_LENT; i++)
+        guids[i] = KEPT_GUID;
+    return look(l, DUCAT_KEY_WORDS, guids, guids_len, DUCAT_GUIDS_NUMBERS);
+}
+
+static int answered_for(uint64_t code, uint64_t first, uint64_t second, uint64_t given) {
+    const uint64_t expected[] = {code, 0, first, second, given, UINT64_MAX};
+    return memcmp(answer, expected, sizeof expected) == 0;
+}
+
+/* Whether the lent GUIDs start with those of so many numbers, and all behind them is kept. */
+static int given(int count, uint32_t first, uint32_t second) {
+    const struct ducat_guid expected[] = {guid_of(first), guid_of(second)};
+    if (memcmp(guids, expected, count * sizeof expected[0]) != 0)
+        return 0;
+    for (int i = count * DUCAT_GUID_WORDS; i < GUIDS_LENT; i++)
+        if (guids[i] != KEPT_GUID)
+            return 0;
+    return 1;
+}
+
+/* The same with a refusal of this code: looked up with so much room, no GUID is written. */
+static int refused(const struct lists *l, size_t guids_len, uint32_t code) {
+    return look_for(l, guids_len) == code && answered_for(code, 0, 0, 0) && given(0, 0, 0);
+}
+
+static int found(const struct lists *l, size_t guids_len, int count, uint32_t first, uint32_t second) {
+    return look_for(l, guids_len) == DUCAT_ACCEPTED && answered_for(DUCAT_ACCEPTED, 0, 0, (uint64_t)count) &&
+           given(count, first, second);
+}
+
+static void by_events(struct lists *l) {
+    fill_lists(l);
+    check(found(l, GUIDS_LENT, 2, 72, 71), "each GUID once, in first-seen order, from the first tables of a kind");
+    check(look_for(l, 7) == DUCAT_LIST_TOO_SMALL && answered_for(DUCAT_LIST_TOO_SMALL, DUCAT_GUIDS, 1, 0) && given(0, 0, 0),
+          "room for one GUID");
+    put_template(l, 1, 200, 71);
+    check(found(l, 4, 1, 71, 0), "two templates of one GUID");
+    put_event(l, 0, 1001, 0);
+    put_event(l, 1, 1001, 400);
+    put_event(l, 2, 1002, 100);
+    check(found(l, 4, 0, 0, 0), "no offset, no template, another key");
+}
+
+static void by_provider(struct lists *l) {
+    fill_lists(l);
+    for (int i = 0; i < DUCAT_GUID_WORDS; i++) {
+        struct ducat_guid other = guid_of(5);
+        other.words[i]++;
+        put_provider(l, 0, other);
+        check(found(l, 8, 0, 0, 0), "a GUID that is not there");
+    }
+    put_provider(l, 1, guid_of(5));
+    put_table(l, 2, 1, DUCAT_KIND_EVNT, 3, 1);
+    put_table(l, 3, 1, DUCAT_KIND_TTBL, 3, 1);
+    check(found(l, 8, 1, 74, 0), "the second provider");
+    put_provider(l, 0, guid_of(5));
+    check(found(l, 8, 2, 72, 71), "the first of that GUID");
+}
+
+static void apart(struct lists *l) {
+    /* The last table is none of those that are used. */
+    const uint32_t faults[][4] = {
+        {2, DUCAT_KIND_TTBL, 3, 1}, {0, DUCAT_KIND_TTBL, 3, 2}, {0, DUCAT_KIND_TTBL, 5, 0}, {0, 0, 0, 0}, {0, 9, 0, 0}};
+    for (size_t i = 0; i < sizeof faults / sizeof faults[0]; i++) {
+        fill_lists(l);
+        put_table(l, 3, faults[i][0], faults[i][1], faults[i][2], faults[i][3]);
+        check(refused(l, 8, DUCAT_LISTS_APART), "a table that doesn't fit");
+        check(refused(l, 0, DUCAT_LISTS_APART), "10 before 9");
+    }
+    fill_lists(l);
+    set_count(l, DUCAT_UNKNOWN2, ROOM + 1);
+    check(refused(l, 8, DUCAT_LISTS_APART), "a count over its capacity, by key");
+    l->words_len--;
+    check(refused(l, 8, DUCAT_BAD_LENDING), "too few words, by key, before a count over its capacity");
+}
+
+static void lengths(struct lists *l) {
+    fill_lists(l);
+    l->capacities_len = DUCAT_AREAS - 1;
+    check(refused(l, 8, DUCAT_BAD_LENDING), "a capacity too few, by key");
+    fill_lists(l);
+    l->counts_len = DUCAT_AREAS + 1;
+    check(refused(l, 8, DUCAT_BAD_LENDING), "a count too many, by key");
+    fill_lists(l);
+    check(look(l, DUCAT_KEY_WORDS + 1, guids, 8, DUCAT_GUIDS_NUMBERS) == DUCAT_BAD_LENDING &&
+          answered_for(DUCAT_BAD_LENDING, 0, 0, 0) && given(0, 0, 0), "a key of a word too many");
+    check(look(l, DUCAT_KEY_WORDS, guids, 8, DUCAT_GUIDS_NUMBERS + 1) == DUCAT_BAD_LENDING && answer[0] == UINT64_MAX &&
+          given(0, 0, 0), "a number too many, and all are kept");
+}
+
+static void most(struct lists *l) {
+    size_t words = (size_t)DUCAT_MOST * DUCAT_GUID_WORDS;
+    uint32_t *many = (uint32_t *)calloc(words + DUCAT_GUID_WORDS, sizeof *many);
+    if (many == NULL)
+        exit(2);
+    fill_lists(l);
+    check(look(l, DUCAT_KEY_WORDS, many, words + DUCAT_GUID_WORDS - 1, DUCAT_GUIDS_NUMBERS) == DUCAT_ACCEPTED,
+          "the most room for GUIDs");
+    check(look(l, DUCAT_KEY_WORDS, many, words + DUCAT_GUID_WORDS, DUCAT_GUIDS_NUMBERS) == DUCAT_BAD_LENDING,
+          "more room for GUIDs than there may be");
+    free(many);
+}
+
+void test_by_key(void) {
+    struct lists l = new_lists();
+    by_events(&l);
+    by_provider(&l);
+    apart(&l);
+    lengths(&l);
+    most(&l);
+    free_lists(&l);
+}
