@@ -96,29 +96,32 @@ static int nothing(const struct ducat_event *entry) {
 }
 
 static void entries(void) {
-    struct lending l = lend_each(3);
+    uint32_t capacities[DUCAT_AREAS];
+    for (size_t area = 0; area < DUCAT_AREAS; area++)
+        capacities[area] = 3;
+    struct lending l = lend(capacities);
     struct ducat_event event;
     uint32_t wide[DUCAT_EVENT_WORDS + 1];
-    uint32_t *last = l.words + ducat_start(l.capacities, DUCAT_EVENTS) + 2 * DUCAT_EVENT_WORDS;
+    uint32_t *last = l.words + ducat_start(capacities, DUCAT_EVENTS) + 2 * DUCAT_EVENT_WORDS;
     for (uint32_t i = 0; i < DUCAT_EVENT_WORDS; i++)
         last[i] = i;
-    check(ducat_entry(l.words, l.capacities, DUCAT_EVENTS, 2, &event, sizeof event) == 1, "an entry");
+    check(ducat_entry(l.words, capacities, DUCAT_EVENTS, 2, &event, sizeof event) == 1, "an entry");
     check(memcmp(&event, last, sizeof event) == 0, "an entry's words");
     check(event.identifier == 0 && event.message == 8 && event.flags == DUCAT_EVENT_WORDS - 1, "an entry's fields");
-    check(ducat_entry(l.words, l.capacities, DUCAT_EVENTS, 3, &event, sizeof event) == 0 && nothing(&event),
+    check(ducat_entry(l.words, capacities, DUCAT_EVENTS, 3, &event, sizeof event) == 0 && nothing(&event),
           "an entry past the capacity");
     event.flags = KEPT;
-    check(ducat_entry(l.words, l.capacities, DUCAT_EVENTS, UINT32_MAX, &event, sizeof event) == 0 && nothing(&event),
+    check(ducat_entry(l.words, capacities, DUCAT_EVENTS, UINT32_MAX, &event, sizeof event) == 0 && nothing(&event),
           "an entry far past the capacity");
     event.flags = KEPT;
-    check(ducat_entry(l.words, l.capacities, DUCAT_TABLES, 0, &event, sizeof event) == 0 && nothing(&event),
+    check(ducat_entry(l.words, capacities, DUCAT_TABLES, 0, &event, sizeof event) == 0 && nothing(&event),
           "an entry of another list's size");
-    check(ducat_entry(l.words, l.capacities, DUCAT_EVENTS, 0, wide, sizeof wide) == 0, "an entry of too many words");
+    check(ducat_entry(l.words, capacities, DUCAT_EVENTS, 0, wide, sizeof wide) == 0, "an entry of too many words");
     for (size_t i = 0; i < WITHOUT_AREA; i++) {
         event.flags = KEPT;
-        check(ducat_entry(l.words, l.capacities, without_area[i], 0, &event, sizeof event) == 0 && nothing(&event),
+        check(ducat_entry(l.words, capacities, without_area[i], 0, &event, sizeof event) == 0 && nothing(&event),
               "an entry of a list that has no area");
-        check(ducat_entry(l.words, l.capacities, without_area[i], 0, &event, 0) == 0, "the same, of no words");
+        check(ducat_entry(l.words, capacities, without_area[i], 0, &event, 0) == 0, "the same, of no words");
     }
     take_back(&l);
 }

@@ -22,11 +22,6 @@ struct block block_z(void);
 /* T: one provider with one table, a TTBL, with one template. */
 struct block block_t(void);
 
-/* One provider with entries in every list, as many as full_count says: another number for each list. In every entry but those of
- * tables and maps one word is the entry's mark, 100 times the list's number plus the entry's. */
-struct block block_full(void);
-uint32_t full_count(uint32_t list);
-
 /* One provider with one table, a LEVL, with so many definitions: its bytes, to be freed, and their number. */
 uint8_t *block_of_levels(uint32_t levels, size_t *length);
 

@@ -1,5 +1,6 @@
 /* ducat_needs: what it says, and that so much is enough and no less. */
 #include "check.h"
+#include "full.h"
 #include "lending.h"
 #include "tests.h"
 

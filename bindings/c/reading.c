@@ -1,5 +1,6 @@
 /* ducat_read: the blocks Z and T, refusals, lent words that are kept. */
 #include "check.h"
+#include "full.h"
 #include "lending.h"
 #include "tests.h"
 
@@ -45,16 +46,34 @@ static void one_template(void) {
     take_back(&l);
 }
 
+/* A block with one word made another: the word's place, the word, the code and the numbers of the answer. */
+static void refused_with(struct block b, const uint32_t fault[7]) {
+    struct lending l = lend_each(12);
+    put(b.bytes, fault[0], fault[1]);
+    check(ask_block(&l, &b) == fault[2] && answered(l.answer, fault[2], fault[3], fault[4], fault[5], fault[6]) && all_kept(&l),
+          "a block that is refused");
+    take_back(&l);
+}
+
 static void refused(void) {
-    struct lending none = lend_each(0), one = lend_each(1);
+    const uint32_t in_t[][7] = {
+        {76, 0, DUCAT_WRONG_SIGNATURE, 0, 76, 0x504d4554, 0},
+        {68, 51, DUCAT_CUT_SHORT, 80, 76, 40, 39},
+        {80, 39, DUCAT_BAD_SIZE, 82, 76, 39, 0},
+        {88, 1, DUCAT_BAD_COUNT, 88, 88, 1, 0},
+        {92, 75, DUCAT_BAD_OFFSET, 85, 75, 116, 0},
+        {92, 117, DUCAT_BAD_OFFSET, 89, 41, 40, 0},
+    };
+    const uint32_t in_name[7] = {FULL_NAME, 7, DUCAT_NOT_UTF16, 75, FULL_NAME, 0, 0};
+    for (size_t i = 0; i < sizeof in_t / sizeof in_t[0]; i++)
+        refused_with(block_t(), in_t[i]);
+    refused_with(block_full(), in_name);
+
+    struct lending none = lend_each(0);
     struct block t = block_t();
     check(ask_block(&none, &t) == DUCAT_LIST_TOO_SMALL, "T without room");
     check(answered(none.answer, DUCAT_LIST_TOO_SMALL, 0, 0, DUCAT_PROVIDERS, 0) && all_kept(&none), "the answer to T without room");
-    put(t.bytes, 80, 39);
-    check(ask_block(&one, &t) == DUCAT_BAD_SIZE, "T with TEMP.size 39");
-    check(answered(one.answer, DUCAT_BAD_SIZE, 82, 76, 39, 0) && all_kept(&one), "the answer to T with TEMP.size 39");
     take_back(&none);
-    take_back(&one);
 }
 
 static void bad_lending(void) {
