@@ -14,8 +14,17 @@ static uint32_t guids[GUIDS_LENT];
 
 /* Looks templates up by the key of events 1001 of provider 5, and gives the code. */
 static uint32_t look(const struct lists *l, size_t key_len, uint32_t *lent, size_t lent_len, size_t answer_len) {
-    const struct ducat_key key = {guid_of(5), 1001, 2, 3, 4, 5, 6, 7, 8};
+    struct ducat_key key;
     uint32_t words[DUCAT_KEY_WORDS + 1] = {0};
+    key.guid = guid_of(5);
+    key.identifier = 1001;
+    key.version = 2;
+    key.channel = 3;
+    key.level = 4;
+    key.opcode = 5;
+    key.task = 6;
+    key.keywords_low = 7;
+    key.keywords_high = 8;
     memcpy(words, &key, sizeof key);
     memset(answer, 0xff, sizeof answer);
     return ducat_templates_for(l->words, l->words_len, l->capacities, l->capacities_len, l->counts, l->counts_len, words, key_len,
@@ -29,8 +38,8 @@ static uint32_t look_for(const struct lists *l, size_t guids_len) {
 }
 
 static int answered_for(uint64_t code, uint64_t first, uint64_t second, uint64_t given) {
-    const uint64_t expected[] = {code, 0, first, second, given, UINT64_MAX};
-    return memcmp(answer, expected, sizeof expected) == 0;
+    return answer[DUCAT_LOOKUP_CODE] == code && answer[DUCAT_LOOKUP_PLACE] == 0 && answer[DUCAT_LOOKUP_FIRST] == first &&
+           answer[DUCAT_LOOKUP_SECOND] == second && answer[DUCAT_GIVEN] == given && answer[DUCAT_GUIDS_NUMBERS] == UINT64_MAX;
 }
 
 /* Whether the lent GUIDs start with those of so many numbers, and all behind them is kept. */
@@ -44,11 +53,12 @@ static int given(int count, uint32_t first, uint32_t second) {
     return 1;
 }
 
-/* The same with a refusal of this code: looked up with so much room, no GUID is written. */
+/* Whether a lookup with so much room is refused with a code, and writes no GUID. */
 static int refused(const struct lists *l, size_t guids_len, uint32_t code) {
     return look_for(l, guids_len) == code && answered_for(code, 0, 0, 0) && given(0, 0, 0);
 }
 
+/* Whether it gives the GUIDs of so many numbers. */
 static int found(const struct lists *l, size_t guids_len, int count, uint32_t first, uint32_t second) {
     return look_for(l, guids_len) == DUCAT_ACCEPTED && answered_for(DUCAT_ACCEPTED, 0, 0, (uint64_t)count) &&
            given(count, first, second);
