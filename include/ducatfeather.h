@@ -1,5 +1,5 @@
 /* Ducatfeather: reads a CRIM block into lent memory, and finds templates in what was read. docs/FORMAT.md says what each number
- * means. In short, in C:
+ * means. In short, in C (a word more than is needed is asked of malloc, so that the words aren't null where none is needed):
  *
  *     uint64_t answer[DUCAT_NUMBERS];
  *     uint32_t capacities[DUCAT_AREAS];
@@ -7,7 +7,7 @@
  *         return refused(answer);
  *     ducat_counts(answer, capacities);
  *     size_t words_len = ducat_words(capacities);
- *     uint32_t *words = malloc((words_len + 1) * sizeof *words);    (one more, since it may not be null where none is needed)
+ *     uint32_t *words = malloc((words_len + 1) * sizeof *words);
  *     if (words == NULL)
  *         return no_memory();
  *     if (ducat_read(bytes, bytes_len, words, words_len, capacities, DUCAT_AREAS, answer, DUCAT_NUMBERS) != DUCAT_ACCEPTED)
@@ -50,7 +50,7 @@ extern "C" {
 #define DUCAT_TEMPLATE_NUMBERS 6
 #define DUCAT_GUIDS_NUMBERS 5
 
-/* What the numbers of ducat_read's and ducat_needs's answers are, by their places. The counts follow one another from
+/* What the numbers of an answer of ducat_read or ducat_needs are, by their places. The counts follow one another from
  * DUCAT_COUNTS on, in the order of the areas; ducat_count gives a list's. */
 enum {
     DUCAT_CODE = 0,
@@ -311,26 +311,22 @@ DUCAT_INLINE size_t ducat_area_of(uint32_t list) {
     return area;
 }
 
-/* How many words the first areas need together, so many of them, given the capacities. */
-DUCAT_INLINE size_t ducat_words_of(const uint32_t *capacities, size_t areas) {
-    size_t words = 0;
-    for (size_t area = 0; area < areas; area++)
-        words += (size_t)capacities[area] * ducat_areas()[area].words;
-    return words;
-}
-
-/* How many words all areas need together: so many are lent to ducat_read, or more. */
-DUCAT_INLINE size_t ducat_words(const uint32_t *capacities) {
-    return ducat_words_of(capacities, DUCAT_AREAS);
-}
-
-/* The word at which a list's area starts. A list that has no area is taken for an empty one behind all areas, so its start is
- * where they end. */
+/* The word at which a list's area starts, given the capacities. A list that has no area is taken for an empty one behind all
+ * areas: its start is where they end. */
 DUCAT_INLINE size_t ducat_start(const uint32_t *capacities, uint32_t list) {
-    return ducat_words_of(capacities, ducat_area_of(list));
+    size_t end = ducat_area_of(list);
+    size_t start = 0;
+    for (size_t area = 0; area < end; area++)
+        start += (size_t)capacities[area] * ducat_areas()[area].words;
+    return start;
 }
 
-/* How many entries a list has, given ducat_read's answer, or needs, given ducat_needs's: 0 if the list has no area. */
+/* How many words all areas need together, given the capacities: so many are lent to ducat_read, or more. */
+DUCAT_INLINE size_t ducat_words(const uint32_t *capacities) {
+    return ducat_start(capacities, 0); /* where they end: no list has number 0 */
+}
+
+/* How many entries a list has, given ducat_read's answer, or needs, given that of ducat_needs. 0 if the list has no area. */
 DUCAT_INLINE uint32_t ducat_count(const uint64_t *answer, uint32_t list) {
     size_t area = ducat_area_of(list);
     return area < DUCAT_AREAS ? (uint32_t)answer[DUCAT_COUNTS + area] : 0;
@@ -349,7 +345,7 @@ DUCAT_INLINE void ducat_counts(const uint64_t *answer, uint32_t *counts) {
  * Gives 0, and makes the struct all zeros, if the list has no area, if the number isn't less than the list's capacity, or if
  * entry_size isn't the size of the list's struct. */
 DUCAT_INLINE int ducat_entry(const uint32_t *words, const uint32_t *capacities, uint32_t list, uint32_t number,
-                              void *entry, size_t entry_size) {
+                             void *entry, size_t entry_size) {
     size_t area = ducat_area_of(list);
     memset(entry, 0, entry_size);
     if (area == DUCAT_AREAS || number >= capacities[area] || entry_size != 4 * (size_t)ducat_areas()[area].words)
@@ -412,8 +408,8 @@ uint32_t ducat_read(const uint8_t *blob, size_t blob_len,
  * No pointer may be null, not even where its length is 0, and what is written to, the answer and the list of GUIDs, may overlap
  * with nothing else that is lent. Calls that write to memory of their own may run side by side, over the same words too. */
 
-/* By offset: the lowest template, among the entries of DUCAT_TEMPLATES from number first on, count of them, whose offset is this one.
- * To find an event's template, give first entry and count of its provider's TTBL, and the event's template offset.
+/* By offset: the lowest template, among the entries of DUCAT_TEMPLATES from number first on, count of them, whose offset is this
+ * one. To find an event's template, give first entry and count of its provider's TTBL, and the event's template offset.
  *
  * A range past the list's count is code 10, also where count is 0. answer_len is DUCAT_TEMPLATE_NUMBERS. */
 uint32_t ducat_template_at(const uint32_t *words, size_t words_len,
@@ -429,9 +425,9 @@ uint32_t ducat_template_at(const uint32_t *words, size_t words_len,
  * guids, guids_len  the list that the GUIDs are written to. Its capacity is guids_len / DUCAT_GUID_WORDS, rounded down; over
  *                   DUCAT_MOST it is code 8. There are at most as many GUIDs as DUCAT_TEMPLATES has entries.
  *
- * An entry of DUCAT_TABLES whose provider is not there, whose kind isn't 1 to 8, or whose range is past its list's count is code 10,
- * whether it is used or not; then a list that is too short is 9. answer_len is DUCAT_GUIDS_NUMBERS. Of guids nothing is touched
- * but the GUIDs that are given, and nothing on any other code than 0.
+ * An entry of DUCAT_TABLES whose provider is not there, whose kind isn't 1 to 8, or whose range is past its list's count is code
+ * 10, whether it is used or not; then a list that is too short is 9. answer_len is DUCAT_GUIDS_NUMBERS. Of guids nothing is
+ * touched but the GUIDs that are given, and nothing on any other code than 0.
  *
  * It keeps a mark for each template, and uses about 70 KB of stack. */
 uint32_t ducat_templates_for(const uint32_t *words, size_t words_len,

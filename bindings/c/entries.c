@@ -7,7 +7,7 @@
 
 #include <string.h>
 
-/* Copies an entry, and says whether that could be. */
+/* Copies an entry of a lending's words, and says whether there is one. */
 #define ENTRY(l, list, number, entry) (ducat_entry((l)->words, (l)->capacities, list, number, &(entry), sizeof(entry)) == 1)
 
 static int rising(const struct ducat_guid *guid, uint32_t first) {

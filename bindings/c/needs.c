@@ -106,7 +106,7 @@ static void refused(void) {
         check(seen[code] > 0, "each code comes up in some damaged block");
 }
 
-/* A definition more than can be lent, and the most that can. */
+/* The most definitions that can be lent for, and more. */
 static void many(void) {
     for (uint32_t levels = DUCAT_MOST - 1; levels <= DUCAT_MOST + 2; levels++) {
         uint64_t answer[DUCAT_NUMBERS];
@@ -114,12 +114,15 @@ static void many(void) {
         size_t length;
         uint8_t *bytes = block_of_levels(levels, &length);
         check(ducat_needs(bytes, length, answer, DUCAT_NUMBERS) == DUCAT_ACCEPTED, "many definitions");
+        check(answer[DUCAT_CODE] == DUCAT_ACCEPTED && answer[DUCAT_FIELD] == 0 && answer[DUCAT_PLACE] == 0 &&
+              answer[DUCAT_FIRST] == length && answer[DUCAT_SECOND] == 0, "the answer to many definitions");
         check(ducat_count(answer, DUCAT_DEFINITIONS) == (levels > DUCAT_MOST ? DUCAT_MOST + 1 : levels), "how many definitions");
         ducat_counts(answer, capacities);
         struct lending l = lend(capacities);
         if (levels <= DUCAT_MOST) {
-            check(ask(&l, bytes, length) == DUCAT_ACCEPTED && ducat_count(l.answer, DUCAT_DEFINITIONS) == levels,
+            check(ask(&l, bytes, length) == DUCAT_ACCEPTED && memcmp(l.answer, answer, sizeof answer) == 0,
                   "the most definitions that can be lent for");
+            check(others_kept(&l), "words behind the most definitions");
         } else {
             check(ask(&l, bytes, length) == DUCAT_BAD_LENDING && all_kept(&l), "more than can be lent");
             take_back(&l);
