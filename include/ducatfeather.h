@@ -12,9 +12,9 @@
  *         return no_memory();
  *     if (ducat_read(bytes, bytes_len, words, words_len, capacities, DUCAT_AREAS, answer, DUCAT_NUMBERS) != DUCAT_ACCEPTED)
  *         return refused(answer);
- *     for (uint32_t i = 0; i < ducat_count(answer, DUCAT_TEMPLATES); i++) {
+ *     for (uint32_t i = 0; i < ducat_count(answer, DUCAT_LIST_TEMPLATES); i++) {
  *         struct ducat_template entry;
- *         ducat_entry(words, capacities, DUCAT_TEMPLATES, i, &entry, sizeof entry);
+ *         ducat_entry(words, capacities, DUCAT_LIST_TEMPLATES, i, &entry, sizeof entry);
  *         ...
  *     }
  */
@@ -68,7 +68,7 @@ enum {
     DUCAT_LOOKUP_FIRST = 2,
     DUCAT_LOOKUP_SECOND = 3,
     DUCAT_FOUND = 4,          /* ducat_template_at: 1 if there is such a template, else 0 */
-    DUCAT_FOUND_NUMBER = 5,   /* ducat_template_at: its number in DUCAT_TEMPLATES; 0 if there is none */
+    DUCAT_FOUND_NUMBER = 5,   /* ducat_template_at: its number in DUCAT_LIST_TEMPLATES; 0 if there is none */
     DUCAT_GIVEN = 4           /* ducat_templates_for: how many GUIDs were written */
 };
 
@@ -91,29 +91,29 @@ enum {
 
 /* The lists, by their numbers. A number is a name: it doesn't say which area is the list's (ducat_area_of does). */
 enum {
-    DUCAT_PROVIDERS = 1,
-    DUCAT_DESCRIPTORS = 2,
-    DUCAT_UNKNOWN2 = 3,
-    DUCAT_TABLES = 4,
-    DUCAT_DEFINITIONS = 5,
-    DUCAT_EVENTS = 6,
-    DUCAT_MAPS = 7,
-    DUCAT_MAP_ENTRIES = 8,
-    DUCAT_TEMPLATES = 9,
-    DUCAT_UNKNOWN_ELEMENTS = 10,
+    DUCAT_LIST_PROVIDERS = 1,
+    DUCAT_LIST_DESCRIPTORS = 2,
+    DUCAT_LIST_UNKNOWN2 = 3,
+    DUCAT_LIST_TABLES = 4,
+    DUCAT_LIST_DEFINITIONS = 5,
+    DUCAT_LIST_EVENTS = 6,
+    DUCAT_LIST_MAPS = 7,
+    DUCAT_LIST_MAP_ENTRIES = 8,
+    DUCAT_LIST_TEMPLATES = 9,
+    DUCAT_LIST_UNKNOWN_ELEMENTS = 10,
     DUCAT_GUIDS = 11          /* the list lent to ducat_templates_for, which has no area */
 };
 
 /* The kinds of tables. */
 enum {
-    DUCAT_KIND_CHAN = 1,
-    DUCAT_KIND_EVNT = 2,
-    DUCAT_KIND_KEYW = 3,
-    DUCAT_KIND_LEVL = 4,
-    DUCAT_KIND_MAPS = 5,
-    DUCAT_KIND_OPCO = 6,
-    DUCAT_KIND_TASK = 7,
-    DUCAT_KIND_TTBL = 8
+    DUCAT_CHAN = 1,
+    DUCAT_EVNT = 2,
+    DUCAT_KEYW = 3,
+    DUCAT_LEVL = 4,
+    DUCAT_MAPS = 5,
+    DUCAT_OPCO = 6,
+    DUCAT_TASK = 7,
+    DUCAT_TTBL = 8
 };
 
 /* The kinds of maps. */
@@ -204,7 +204,7 @@ struct ducat_map {
     uint32_t string_offset;
     uint32_t name_start;
     uint32_t name_units;
-    uint32_t first_entry;     /* its number in DUCAT_MAP_ENTRIES */
+    uint32_t first_entry;     /* its number in DUCAT_LIST_MAP_ENTRIES */
     uint32_t entry_count;
     uint32_t data_start;
     uint32_t data_length;
@@ -287,16 +287,16 @@ struct ducat_area {
  * functions up to ducat_entry go by this table. */
 DUCAT_INLINE const struct ducat_area *ducat_areas(void) {
     static const struct ducat_area areas[] = {
-        {DUCAT_PROVIDERS, DUCAT_PROVIDER_WORDS},
-        {DUCAT_DESCRIPTORS, DUCAT_DESCRIPTOR_WORDS},
-        {DUCAT_UNKNOWN2, DUCAT_UNKNOWN2_WORDS},
-        {DUCAT_TABLES, DUCAT_TABLE_WORDS},
-        {DUCAT_DEFINITIONS, DUCAT_DEFINITION_WORDS},
-        {DUCAT_EVENTS, DUCAT_EVENT_WORDS},
-        {DUCAT_MAPS, DUCAT_MAP_WORDS},
-        {DUCAT_MAP_ENTRIES, DUCAT_MAP_ENTRY_WORDS},
-        {DUCAT_TEMPLATES, DUCAT_TEMPLATE_WORDS},
-        {DUCAT_UNKNOWN_ELEMENTS, DUCAT_UNKNOWN_ELEMENT_WORDS},
+        {DUCAT_LIST_PROVIDERS, DUCAT_PROVIDER_WORDS},
+        {DUCAT_LIST_DESCRIPTORS, DUCAT_DESCRIPTOR_WORDS},
+        {DUCAT_LIST_UNKNOWN2, DUCAT_UNKNOWN2_WORDS},
+        {DUCAT_LIST_TABLES, DUCAT_TABLE_WORDS},
+        {DUCAT_LIST_DEFINITIONS, DUCAT_DEFINITION_WORDS},
+        {DUCAT_LIST_EVENTS, DUCAT_EVENT_WORDS},
+        {DUCAT_LIST_MAPS, DUCAT_MAP_WORDS},
+        {DUCAT_LIST_MAP_ENTRIES, DUCAT_MAP_ENTRY_WORDS},
+        {DUCAT_LIST_TEMPLATES, DUCAT_TEMPLATE_WORDS},
+        {DUCAT_LIST_UNKNOWN_ELEMENTS, DUCAT_UNKNOWN_ELEMENT_WORDS},
     };
     DUCAT_STATIC_ASSERT(sizeof areas / sizeof areas[0] == DUCAT_AREAS, "the number of areas");
     return areas;
@@ -408,7 +408,7 @@ uint32_t ducat_read(const uint8_t *blob, size_t blob_len,
  * No pointer may be null, not even where its length is 0, and what is written to, the answer and the list of GUIDs, may overlap
  * with nothing else that is lent. Calls that write to memory of their own may run side by side, over the same words too. */
 
-/* By offset: the lowest template, among the entries of DUCAT_TEMPLATES from number first on, count of them, whose offset is this
+/* By offset: the lowest template, among the entries of DUCAT_LIST_TEMPLATES from number first on, count of them, whose offset is this
  * one. To find an event's template, give first entry and count of its provider's TTBL, and the event's template offset.
  *
  * A range past the list's count is code 10, also where count is 0. answer_len is DUCAT_TEMPLATE_NUMBERS. */
@@ -423,9 +423,9 @@ uint32_t ducat_template_at(const uint32_t *words, size_t words_len,
  *
  * key, key_len      DUCAT_KEY_WORDS words.
  * guids, guids_len  the list that the GUIDs are written to. Its capacity is guids_len / DUCAT_GUID_WORDS, rounded down; over
- *                   DUCAT_MOST it is code 8. There are at most as many GUIDs as DUCAT_TEMPLATES has entries.
+ *                   DUCAT_MOST it is code 8. There are at most as many GUIDs as DUCAT_LIST_TEMPLATES has entries.
  *
- * An entry of DUCAT_TABLES whose provider is not there, whose kind isn't 1 to 8, or whose range is past its list's count is code
+ * An entry of DUCAT_LIST_TABLES whose provider is not there, whose kind isn't 1 to 8, or whose range is past its list's count is code
  * 10, whether it is used or not; then a list that is too short is 9. answer_len is DUCAT_GUIDS_NUMBERS. Of guids nothing is
  * touched but the GUIDs that are given, and nothing on any other code than 0.
  *

@@ -10,16 +10,16 @@ static const struct {
     uint32_t list;
     size_t size;
 } expected[] = {
-    {DUCAT_PROVIDERS, sizeof(struct ducat_provider)},
-    {DUCAT_DESCRIPTORS, sizeof(struct ducat_descriptor)},
-    {DUCAT_UNKNOWN2, sizeof(struct ducat_unknown2)},
-    {DUCAT_TABLES, sizeof(struct ducat_table)},
-    {DUCAT_DEFINITIONS, sizeof(struct ducat_definition)},
-    {DUCAT_EVENTS, sizeof(struct ducat_event)},
-    {DUCAT_MAPS, sizeof(struct ducat_map)},
-    {DUCAT_MAP_ENTRIES, sizeof(struct ducat_map_entry)},
-    {DUCAT_TEMPLATES, sizeof(struct ducat_template)},
-    {DUCAT_UNKNOWN_ELEMENTS, sizeof(struct ducat_unknown_element)},
+    {DUCAT_LIST_PROVIDERS, sizeof(struct ducat_provider)},
+    {DUCAT_LIST_DESCRIPTORS, sizeof(struct ducat_descriptor)},
+    {DUCAT_LIST_UNKNOWN2, sizeof(struct ducat_unknown2)},
+    {DUCAT_LIST_TABLES, sizeof(struct ducat_table)},
+    {DUCAT_LIST_DEFINITIONS, sizeof(struct ducat_definition)},
+    {DUCAT_LIST_EVENTS, sizeof(struct ducat_event)},
+    {DUCAT_LIST_MAPS, sizeof(struct ducat_map)},
+    {DUCAT_LIST_MAP_ENTRIES, sizeof(struct ducat_map_entry)},
+    {DUCAT_LIST_TEMPLATES, sizeof(struct ducat_template)},
+    {DUCAT_LIST_UNKNOWN_ELEMENTS, sizeof(struct ducat_unknown_element)},
 };
 
 /* Lists that have no area. */
@@ -101,21 +101,21 @@ static void entries(void) {
     struct lending l = lend(capacities);
     struct ducat_event event;
     uint32_t wide[DUCAT_EVENT_WORDS + 1];
-    uint32_t *last = l.words + ducat_start(capacities, DUCAT_EVENTS) + 2 * DUCAT_EVENT_WORDS;
+    uint32_t *last = l.words + ducat_start(capacities, DUCAT_LIST_EVENTS) + 2 * DUCAT_EVENT_WORDS;
     for (uint32_t i = 0; i < DUCAT_EVENT_WORDS; i++)
         last[i] = i;
-    check(ducat_entry(l.words, capacities, DUCAT_EVENTS, 2, &event, sizeof event) == 1, "an entry");
+    check(ducat_entry(l.words, capacities, DUCAT_LIST_EVENTS, 2, &event, sizeof event) == 1, "an entry");
     check(memcmp(&event, last, sizeof event) == 0, "an entry's words");
     check(event.identifier == 0 && event.message == 8 && event.flags == DUCAT_EVENT_WORDS - 1, "an entry's fields");
-    check(ducat_entry(l.words, capacities, DUCAT_EVENTS, 3, &event, sizeof event) == 0 && nothing(&event),
+    check(ducat_entry(l.words, capacities, DUCAT_LIST_EVENTS, 3, &event, sizeof event) == 0 && nothing(&event),
           "an entry past the capacity");
     event.flags = KEPT;
-    check(ducat_entry(l.words, capacities, DUCAT_EVENTS, UINT32_MAX, &event, sizeof event) == 0 && nothing(&event),
+    check(ducat_entry(l.words, capacities, DUCAT_LIST_EVENTS, UINT32_MAX, &event, sizeof event) == 0 && nothing(&event),
           "an entry far past the capacity");
     event.flags = KEPT;
-    check(ducat_entry(l.words, capacities, DUCAT_TABLES, 0, &event, sizeof event) == 0 && nothing(&event),
+    check(ducat_entry(l.words, capacities, DUCAT_LIST_TABLES, 0, &event, sizeof event) == 0 && nothing(&event),
           "an entry of another list's size");
-    check(ducat_entry(l.words, capacities, DUCAT_EVENTS, 0, wide, sizeof wide) == 0, "an entry of too many words");
+    check(ducat_entry(l.words, capacities, DUCAT_LIST_EVENTS, 0, wide, sizeof wide) == 0, "an entry of too many words");
     for (size_t i = 0; i < WITHOUT_AREA; i++) {
         event.flags = KEPT;
         check(ducat_entry(l.words, capacities, without_area[i], 0, &event, sizeof event) == 0 && nothing(&event),

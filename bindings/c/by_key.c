@@ -86,8 +86,8 @@ static void by_provider(struct lists *l) {
         check(found(l, 8, 0, 0, 0), "a GUID that is not there");
     }
     put_provider(l, 1, guid_of(5));
-    put_table(l, 2, 1, DUCAT_KIND_EVNT, 3, 1);
-    put_table(l, 3, 1, DUCAT_KIND_TTBL, 3, 1);
+    put_table(l, 2, 1, DUCAT_EVNT, 3, 1);
+    put_table(l, 3, 1, DUCAT_TTBL, 3, 1);
     check(found(l, 8, 1, 74, 0), "the second provider");
     put_provider(l, 0, guid_of(5));
     check(found(l, 8, 2, 72, 71), "the first of that GUID");
@@ -96,7 +96,7 @@ static void by_provider(struct lists *l) {
 static void apart(struct lists *l) {
     /* The last table is none of those that are used. */
     const uint32_t faults[][4] = {
-        {2, DUCAT_KIND_TTBL, 3, 1}, {0, DUCAT_KIND_TTBL, 3, 2}, {0, DUCAT_KIND_TTBL, 5, 0}, {0, 0, 0, 0}, {0, 9, 0, 0}};
+        {2, DUCAT_TTBL, 3, 1}, {0, DUCAT_TTBL, 3, 2}, {0, DUCAT_TTBL, 5, 0}, {0, 0, 0, 0}, {0, 9, 0, 0}};
     for (size_t i = 0; i < sizeof faults / sizeof faults[0]; i++) {
         fill_lists(l);
         put_table(l, 3, faults[i][0], faults[i][1], faults[i][2], faults[i][3]);
@@ -104,7 +104,7 @@ static void apart(struct lists *l) {
         check(refused(l, 0, DUCAT_LISTS_APART), "10 before 9");
     }
     fill_lists(l);
-    set_count(l, DUCAT_UNKNOWN2, ROOM + 1);
+    set_count(l, DUCAT_LIST_UNKNOWN2, ROOM + 1);
     check(refused(l, 8, DUCAT_LISTS_APART), "a count over its capacity, by key");
     l->words_len--;
     check(refused(l, 8, DUCAT_BAD_LENDING), "too few words, by key, before a count over its capacity");

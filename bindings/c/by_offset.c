@@ -46,7 +46,7 @@ static void ranges(const struct lists *l) {
 void test_by_offset(void) {
     struct lists l = new_lists();
     ranges(&l);
-    set_count(&l, DUCAT_UNKNOWN_ELEMENTS, ROOM + 1);
+    set_count(&l, DUCAT_LIST_UNKNOWN_ELEMENTS, ROOM + 1);
     check(refused(&l, 0, 4, 400, DUCAT_LISTS_APART), "a count over its capacity");
     l.words_len--;
     check(refused(&l, 0, 4, 400, DUCAT_BAD_LENDING), "too few words, before a count over its capacity");

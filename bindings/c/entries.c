@@ -23,35 +23,35 @@ static void marked(const struct lending *l) {
     struct ducat_map_entry map_entry;
     struct ducat_template temp;
     struct ducat_unknown_element element;
-    for (uint32_t i = 0; i < full_count(DUCAT_DESCRIPTORS); i++)
-        check(ENTRY(l, DUCAT_DESCRIPTORS, i, descriptor) && descriptor.unknown == mark(DUCAT_DESCRIPTORS, i), "each descriptor");
-    for (uint32_t i = 0; i < full_count(DUCAT_UNKNOWN2); i++)
-        check(ENTRY(l, DUCAT_UNKNOWN2, i, unknown2) && unknown2.word == mark(DUCAT_UNKNOWN2, i), "each unknown2 word");
-    for (uint32_t i = 0; i < full_count(DUCAT_DEFINITIONS); i++)
-        check(ENTRY(l, DUCAT_DEFINITIONS, i, definition) && definition.identifier_low == mark(DUCAT_DEFINITIONS, i),
+    for (uint32_t i = 0; i < full_count(DUCAT_LIST_DESCRIPTORS); i++)
+        check(ENTRY(l, DUCAT_LIST_DESCRIPTORS, i, descriptor) && descriptor.unknown == mark(DUCAT_LIST_DESCRIPTORS, i), "each descriptor");
+    for (uint32_t i = 0; i < full_count(DUCAT_LIST_UNKNOWN2); i++)
+        check(ENTRY(l, DUCAT_LIST_UNKNOWN2, i, unknown2) && unknown2.word == mark(DUCAT_LIST_UNKNOWN2, i), "each unknown2 word");
+    for (uint32_t i = 0; i < full_count(DUCAT_LIST_DEFINITIONS); i++)
+        check(ENTRY(l, DUCAT_LIST_DEFINITIONS, i, definition) && definition.identifier_low == mark(DUCAT_LIST_DEFINITIONS, i),
               "each definition");
-    for (uint32_t i = 0; i < full_count(DUCAT_EVENTS); i++)
-        check(ENTRY(l, DUCAT_EVENTS, i, event) && event.flags == mark(DUCAT_EVENTS, i), "each event");
-    for (uint32_t i = 0; i < full_count(DUCAT_MAP_ENTRIES); i++)
-        check(ENTRY(l, DUCAT_MAP_ENTRIES, i, map_entry) && map_entry.identifier == 32 &&
-              map_entry.message == mark(DUCAT_MAP_ENTRIES, i), "each map entry");
-    for (uint32_t i = 0; i < full_count(DUCAT_TEMPLATES); i++)
-        check(ENTRY(l, DUCAT_TEMPLATES, i, temp) && temp.event_type == mark(DUCAT_TEMPLATES, i), "each template");
-    for (uint32_t i = 0; i < full_count(DUCAT_UNKNOWN_ELEMENTS); i++)
-        check(ENTRY(l, DUCAT_UNKNOWN_ELEMENTS, i, element) && element.signature == mark(DUCAT_UNKNOWN_ELEMENTS, i),
+    for (uint32_t i = 0; i < full_count(DUCAT_LIST_EVENTS); i++)
+        check(ENTRY(l, DUCAT_LIST_EVENTS, i, event) && event.flags == mark(DUCAT_LIST_EVENTS, i), "each event");
+    for (uint32_t i = 0; i < full_count(DUCAT_LIST_MAP_ENTRIES); i++)
+        check(ENTRY(l, DUCAT_LIST_MAP_ENTRIES, i, map_entry) && map_entry.identifier == 32 &&
+              map_entry.message == mark(DUCAT_LIST_MAP_ENTRIES, i), "each map entry");
+    for (uint32_t i = 0; i < full_count(DUCAT_LIST_TEMPLATES); i++)
+        check(ENTRY(l, DUCAT_LIST_TEMPLATES, i, temp) && temp.event_type == mark(DUCAT_LIST_TEMPLATES, i), "each template");
+    for (uint32_t i = 0; i < full_count(DUCAT_LIST_UNKNOWN_ELEMENTS); i++)
+        check(ENTRY(l, DUCAT_LIST_UNKNOWN_ELEMENTS, i, element) && element.signature == mark(DUCAT_LIST_UNKNOWN_ELEMENTS, i),
               "each unknown element");
 }
 
 static void provider(const struct lending *l, const struct block *b) {
     struct ducat_provider p;
-    check(ENTRY(l, DUCAT_PROVIDERS, 0, p) && rising(&p.guid, 41) && p.wevt_offset == 36 && p.size == 45 &&
-          p.message == mark(DUCAT_PROVIDERS, 0) && p.descriptor_count == full_count(DUCAT_DESCRIPTORS) &&
-          p.unknown2_count == full_count(DUCAT_UNKNOWN2), "a provider's fields");
+    check(ENTRY(l, DUCAT_LIST_PROVIDERS, 0, p) && rising(&p.guid, 41) && p.wevt_offset == 36 && p.size == 45 &&
+          p.message == mark(DUCAT_LIST_PROVIDERS, 0) && p.descriptor_count == full_count(DUCAT_LIST_DESCRIPTORS) &&
+          p.unknown2_count == full_count(DUCAT_LIST_UNKNOWN2), "a provider's fields");
     struct ducat_descriptor d;
-    check(ENTRY(l, DUCAT_DESCRIPTORS, 1, d) && d.offset == word_at(b->bytes, 64) && d.signature == 0x544e5645,
+    check(ENTRY(l, DUCAT_LIST_DESCRIPTORS, 1, d) && d.offset == word_at(b->bytes, 64) && d.signature == 0x544e5645,
           "a descriptor's fields");
     struct ducat_unknown_element e;
-    check(ENTRY(l, DUCAT_UNKNOWN_ELEMENTS, 3, e) && e.provider_number == 0 && e.offset == b->length - 8 && e.size == 8,
+    check(ENTRY(l, DUCAT_LIST_UNKNOWN_ELEMENTS, 3, e) && e.provider_number == 0 && e.offset == b->length - 8 && e.size == 8,
           "an unknown element's fields");
 }
 
@@ -59,40 +59,40 @@ static void tables(const struct lending *l) {
     const struct {
         uint32_t kind, first_entry, entry_count;
     } expected[] = {
-        {DUCAT_KIND_CHAN, 0, 1},
-        {DUCAT_KIND_EVNT, 0, full_count(DUCAT_EVENTS)},
-        {DUCAT_KIND_KEYW, 1, 1},
-        {DUCAT_KIND_LEVL, 2, 1},
-        {DUCAT_KIND_MAPS, 0, full_count(DUCAT_MAPS)},
-        {DUCAT_KIND_OPCO, 3, 1},
-        {DUCAT_KIND_TASK, 4, 1},
-        {DUCAT_KIND_TTBL, 0, full_count(DUCAT_TEMPLATES)},
+        {DUCAT_CHAN, 0, 1},
+        {DUCAT_EVNT, 0, full_count(DUCAT_LIST_EVENTS)},
+        {DUCAT_KEYW, 1, 1},
+        {DUCAT_LEVL, 2, 1},
+        {DUCAT_MAPS, 0, full_count(DUCAT_LIST_MAPS)},
+        {DUCAT_OPCO, 3, 1},
+        {DUCAT_TASK, 4, 1},
+        {DUCAT_TTBL, 0, full_count(DUCAT_LIST_TEMPLATES)},
     };
     struct ducat_table t;
     struct ducat_descriptor d;
-    for (uint32_t i = 0; i < full_count(DUCAT_TABLES); i++)
-        check(ENTRY(l, DUCAT_TABLES, i, t) && ENTRY(l, DUCAT_DESCRIPTORS, i, d) && t.provider_number == 0 && t.offset == d.offset &&
+    for (uint32_t i = 0; i < full_count(DUCAT_LIST_TABLES); i++)
+        check(ENTRY(l, DUCAT_LIST_TABLES, i, t) && ENTRY(l, DUCAT_LIST_DESCRIPTORS, i, d) && t.provider_number == 0 && t.offset == d.offset &&
               t.kind == expected[i].kind && t.first_entry == expected[i].first_entry && t.entry_count == expected[i].entry_count,
               "each table");
-    check(ENTRY(l, DUCAT_TABLES, 1, t) && t.size == 16 + 48 * t.entry_count + 4 && t.extra == 31 &&
+    check(ENTRY(l, DUCAT_LIST_TABLES, 1, t) && t.size == 16 + 48 * t.entry_count + 4 && t.extra == 31 &&
           t.trailing_start == t.offset + t.size - 4 && t.trailing_length == 4, "a table's fields");
 }
 
 static void definitions(const struct lending *l) {
     struct ducat_definition d;
-    check(ENTRY(l, DUCAT_DEFINITIONS, 0, d) && d.kind == DUCAT_KIND_CHAN && d.identifier_high == 0 && d.message == 22 &&
+    check(ENTRY(l, DUCAT_LIST_DEFINITIONS, 0, d) && d.kind == DUCAT_CHAN && d.identifier_high == 0 && d.message == 22 &&
           d.name_offset == FULL_NAME && d.name_start == FULL_NAME + 4 && d.name_units == 1 && d.unknown == 21, "a CHAN's fields");
-    check(ENTRY(l, DUCAT_DEFINITIONS, 1, d) && d.kind == DUCAT_KIND_KEYW && d.identifier_high == 23 && d.message == 24,
+    check(ENTRY(l, DUCAT_LIST_DEFINITIONS, 1, d) && d.kind == DUCAT_KEYW && d.identifier_high == 23 && d.message == 24,
           "a KEYW's fields");
-    check(ENTRY(l, DUCAT_DEFINITIONS, 2, d) && d.kind == DUCAT_KIND_LEVL, "a LEVL's fields");
-    check(ENTRY(l, DUCAT_DEFINITIONS, 3, d) && d.kind == DUCAT_KIND_OPCO, "an OPCO's fields");
-    check(ENTRY(l, DUCAT_DEFINITIONS, 4, d) && d.kind == DUCAT_KIND_TASK && d.message == 25 && rising(&d.mui, 26),
+    check(ENTRY(l, DUCAT_LIST_DEFINITIONS, 2, d) && d.kind == DUCAT_LEVL, "a LEVL's fields");
+    check(ENTRY(l, DUCAT_LIST_DEFINITIONS, 3, d) && d.kind == DUCAT_OPCO, "an OPCO's fields");
+    check(ENTRY(l, DUCAT_LIST_DEFINITIONS, 4, d) && d.kind == DUCAT_TASK && d.message == 25 && rising(&d.mui, 26),
           "a TASK's fields");
 }
 
 static void event(const struct lending *l) {
     struct ducat_event e;
-    check(ENTRY(l, DUCAT_EVENTS, 5, e) && e.identifier == 1 && e.version == 2 && e.channel == 3 && e.level == 4 && e.opcode == 5 &&
+    check(ENTRY(l, DUCAT_LIST_EVENTS, 5, e) && e.identifier == 1 && e.version == 2 && e.channel == 3 && e.level == 4 && e.opcode == 5 &&
           e.task == 6 && e.keywords_low == 7 && e.keywords_high == 8 && e.message == 9 && e.template_offset == 10 &&
           e.opcode_offset == 11 && e.level_offset == 12 && e.task_offset == 13 && e.unknown_count == 14 && e.unknown_offset == 15,
           "an event's fields");
@@ -100,14 +100,14 @@ static void event(const struct lending *l) {
 
 static void maps(const struct lending *l) {
     struct ducat_map m;
-    check(ENTRY(l, DUCAT_MAPS, 0, m) && m.kind == DUCAT_VMAP && m.signature == 0x50414d56 &&
-          m.size == 16 + 8 * full_count(DUCAT_MAP_ENTRIES) + 4 && m.string_offset == FULL_NAME && m.name_start == FULL_NAME + 4 &&
-          m.name_units == 1 && m.first_entry == 0 && m.entry_count == full_count(DUCAT_MAP_ENTRIES) &&
+    check(ENTRY(l, DUCAT_LIST_MAPS, 0, m) && m.kind == DUCAT_VMAP && m.signature == 0x50414d56 &&
+          m.size == 16 + 8 * full_count(DUCAT_LIST_MAP_ENTRIES) + 4 && m.string_offset == FULL_NAME && m.name_start == FULL_NAME + 4 &&
+          m.name_units == 1 && m.first_entry == 0 && m.entry_count == full_count(DUCAT_LIST_MAP_ENTRIES) &&
           m.data_start == m.offset + m.size - 4 && m.data_length == 4, "a VMAP's fields");
     uint32_t behind = m.offset + m.size;
-    check(ENTRY(l, DUCAT_MAPS, 1, m) && m.kind == DUCAT_BMAP && m.offset == behind && m.data_start == behind && m.data_length == 4,
+    check(ENTRY(l, DUCAT_LIST_MAPS, 1, m) && m.kind == DUCAT_BMAP && m.offset == behind && m.data_start == behind && m.data_length == 4,
           "a BMAP's fields");
-    check(ENTRY(l, DUCAT_MAPS, 2, m) && m.kind == DUCAT_OTHER_MAP && m.offset == behind + 4, "another map's fields");
+    check(ENTRY(l, DUCAT_LIST_MAPS, 2, m) && m.kind == DUCAT_OTHER_MAP && m.offset == behind + 4, "another map's fields");
 }
 
 /* T, with something in each field of its template. */
@@ -125,7 +125,7 @@ static void template_of_t(void) {
         put(t.bytes, 96 + 4 * i, 4 + i);
     t.length = 120;
     check(ask_block(&l, &t) == DUCAT_ACCEPTED, "T with a fuller template");
-    check(ENTRY(&l, DUCAT_TEMPLATES, 0, e) && e.offset == 76 && e.size == 44 && e.item_descriptor_count == 2 &&
+    check(ENTRY(&l, DUCAT_LIST_TEMPLATES, 0, e) && e.offset == 76 && e.size == 44 && e.item_descriptor_count == 2 &&
           e.item_name_count == 3 && e.items_offset == 120 && e.event_type == 4 && rising(&e.guid, 5) && e.binxml_start == 116 &&
           e.binxml_length == 4, "a template's fields");
     take_back(&l);

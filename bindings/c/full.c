@@ -6,16 +6,16 @@
 
 uint32_t full_count(uint32_t list) {
     switch (list) {
-    case DUCAT_PROVIDERS: return 1;
-    case DUCAT_MAPS: return 3;
-    case DUCAT_UNKNOWN_ELEMENTS: return 4;
-    case DUCAT_DEFINITIONS: return 5;
-    case DUCAT_EVENTS: return 6;
-    case DUCAT_UNKNOWN2: return 7;
-    case DUCAT_TABLES: return 8;
-    case DUCAT_MAP_ENTRIES: return 9;
-    case DUCAT_TEMPLATES: return 10;
-    case DUCAT_DESCRIPTORS: return 12;
+    case DUCAT_LIST_PROVIDERS: return 1;
+    case DUCAT_LIST_MAPS: return 3;
+    case DUCAT_LIST_UNKNOWN_ELEMENTS: return 4;
+    case DUCAT_LIST_DEFINITIONS: return 5;
+    case DUCAT_LIST_EVENTS: return 6;
+    case DUCAT_LIST_UNKNOWN2: return 7;
+    case DUCAT_LIST_TABLES: return 8;
+    case DUCAT_LIST_MAP_ENTRIES: return 9;
+    case DUCAT_LIST_TEMPLATES: return 10;
+    case DUCAT_LIST_DESCRIPTORS: return 12;
     default: return 0;
     }
 }
@@ -52,7 +52,7 @@ static uint32_t definition(struct block *b, const char *four, uint32_t number, u
     uint32_t place = letters(b, four);
     word(b, 12 + record);
     word(b, 1);
-    word(b, mark(DUCAT_DEFINITIONS, number));
+    word(b, mark(DUCAT_LIST_DEFINITIONS, number));
     word(b, second);
     word(b, third);
     return place;
@@ -79,7 +79,7 @@ static uint32_t tasks(struct block *b) {
 
 /* Each event's fields are 1 to 15 and its mark. A word more stands behind the events. */
 static uint32_t events(struct block *b) {
-    uint32_t count = full_count(DUCAT_EVENTS);
+    uint32_t count = full_count(DUCAT_LIST_EVENTS);
     uint32_t place = letters(b, "EVNT");
     word(b, 16 + 48 * count + 4);
     word(b, count);
@@ -88,7 +88,7 @@ static uint32_t events(struct block *b) {
         word(b, 1 + (2u << 16) + (3u << 24));
         word(b, 4 + (5u << 8) + (6u << 16));
         rising(b, 7, 9);
-        word(b, mark(DUCAT_EVENTS, i));
+        word(b, mark(DUCAT_LIST_EVENTS, i));
     }
     zeros(b, 4);
     return place;
@@ -96,12 +96,12 @@ static uint32_t events(struct block *b) {
 
 /* A VMAP, which has all the entries and a word more behind them, then a BMAP and another map. */
 static uint32_t maps(struct block *b) {
-    uint32_t count = full_count(DUCAT_MAP_ENTRIES);
+    uint32_t count = full_count(DUCAT_LIST_MAP_ENTRIES);
     uint32_t size = 16 + 8 * count + 4;
     uint32_t place = letters(b, "MAPS");
     uint32_t behind = place + 16 + 8 + size;
     word(b, behind + 8 - place);
-    word(b, full_count(DUCAT_MAPS));
+    word(b, full_count(DUCAT_LIST_MAPS));
     zeros(b, 4);
     word(b, behind);
     word(b, behind + 4);
@@ -111,7 +111,7 @@ static uint32_t maps(struct block *b) {
     word(b, count);
     for (uint32_t i = 0; i < count; i++) {
         word(b, 32);
-        word(b, mark(DUCAT_MAP_ENTRIES, i));
+        word(b, mark(DUCAT_LIST_MAP_ENTRIES, i));
     }
     zeros(b, 4);
     letters(b, "BMAP");
@@ -120,7 +120,7 @@ static uint32_t maps(struct block *b) {
 }
 
 static uint32_t templates(struct block *b) {
-    uint32_t count = full_count(DUCAT_TEMPLATES);
+    uint32_t count = full_count(DUCAT_LIST_TEMPLATES);
     uint32_t place = letters(b, "TTBL");
     word(b, 12 + 40 * count);
     word(b, count);
@@ -128,7 +128,7 @@ static uint32_t templates(struct block *b) {
         letters(b, "TEMP");
         word(b, 40);
         zeros(b, 12);
-        word(b, mark(DUCAT_TEMPLATES, i));
+        word(b, mark(DUCAT_LIST_TEMPLATES, i));
         zeros(b, 16);
     }
     return place;
@@ -139,20 +139,20 @@ static void start(struct block *b) {
     letters(b, "CRIM");
     zeros(b, 4);
     word(b, 3 + (1u << 16));
-    word(b, full_count(DUCAT_PROVIDERS));
+    word(b, full_count(DUCAT_LIST_PROVIDERS));
     rising(b, 41, 4);
     word(b, 36);
 
     letters(b, "WEVT");
     word(b, 45);
-    word(b, mark(DUCAT_PROVIDERS, 0));
-    word(b, full_count(DUCAT_DESCRIPTORS));
-    word(b, full_count(DUCAT_UNKNOWN2));
-    for (uint32_t i = 0; i < full_count(DUCAT_DESCRIPTORS); i++) {
+    word(b, mark(DUCAT_LIST_PROVIDERS, 0));
+    word(b, full_count(DUCAT_LIST_DESCRIPTORS));
+    word(b, full_count(DUCAT_LIST_UNKNOWN2));
+    for (uint32_t i = 0; i < full_count(DUCAT_LIST_DESCRIPTORS); i++) {
         zeros(b, 4);
-        word(b, mark(DUCAT_DESCRIPTORS, i));
+        word(b, mark(DUCAT_LIST_DESCRIPTORS, i));
     }
-    rising(b, mark(DUCAT_UNKNOWN2, 0), full_count(DUCAT_UNKNOWN2));
+    rising(b, mark(DUCAT_LIST_UNKNOWN2, 0), full_count(DUCAT_LIST_UNKNOWN2));
     word(b, 8);
     word(b, 'N');
 }
@@ -175,9 +175,9 @@ struct block block_full(void) {
     element(&b, &descriptor, definition(&b, "OPCO", 3, 12, 0, 0));
     element(&b, &descriptor, tasks(&b));
     element(&b, &descriptor, templates(&b));
-    for (uint32_t i = 0; i < full_count(DUCAT_UNKNOWN_ELEMENTS); i++) {
+    for (uint32_t i = 0; i < full_count(DUCAT_LIST_UNKNOWN_ELEMENTS); i++) {
         element(&b, &descriptor, (uint32_t)b.length);
-        word(&b, mark(DUCAT_UNKNOWN_ELEMENTS, i));
+        word(&b, mark(DUCAT_LIST_UNKNOWN_ELEMENTS, i));
         word(&b, 8);
     }
     put(b.bytes, 4, (uint32_t)b.length);

@@ -16,7 +16,7 @@ void put_provider(struct lists *l, uint32_t number, struct ducat_guid guid) {
     struct ducat_provider entry;
     memset(&entry, 0, sizeof entry);
     entry.guid = guid;
-    put_entry(l, DUCAT_PROVIDERS, number, &entry, sizeof entry);
+    put_entry(l, DUCAT_LIST_PROVIDERS, number, &entry, sizeof entry);
 }
 
 void put_table(struct lists *l, uint32_t number, uint32_t provider, uint32_t kind, uint32_t first, uint32_t count) {
@@ -26,7 +26,7 @@ void put_table(struct lists *l, uint32_t number, uint32_t provider, uint32_t kin
     entry.kind = kind;
     entry.first_entry = first;
     entry.entry_count = count;
-    put_entry(l, DUCAT_TABLES, number, &entry, sizeof entry);
+    put_entry(l, DUCAT_LIST_TABLES, number, &entry, sizeof entry);
 }
 
 void put_event(struct lists *l, uint32_t number, uint32_t identifier, uint32_t template_offset) {
@@ -41,7 +41,7 @@ void put_event(struct lists *l, uint32_t number, uint32_t identifier, uint32_t t
     entry.keywords_low = 7;
     entry.keywords_high = 8;
     entry.template_offset = template_offset;
-    put_entry(l, DUCAT_EVENTS, number, &entry, sizeof entry);
+    put_entry(l, DUCAT_LIST_EVENTS, number, &entry, sizeof entry);
 }
 
 void put_template(struct lists *l, uint32_t number, uint32_t offset, uint32_t guid) {
@@ -50,7 +50,7 @@ void put_template(struct lists *l, uint32_t number, uint32_t offset, uint32_t gu
     entry.offset = offset;
     entry.size = 40;
     entry.guid = guid_of(guid);
-    put_entry(l, DUCAT_TEMPLATES, number, &entry, sizeof entry);
+    put_entry(l, DUCAT_LIST_TEMPLATES, number, &entry, sizeof entry);
 }
 
 void set_count(struct lists *l, uint32_t list, uint32_t count) {
@@ -80,10 +80,10 @@ void fill_lists(struct lists *l) {
     memset(l->counts, 0, sizeof l->counts);
     put_provider(l, 0, guid_of(5));
     put_provider(l, 1, guid_of(6));
-    put_table(l, 0, 0, DUCAT_KIND_TTBL, 0, 3);
-    put_table(l, 1, 0, DUCAT_KIND_EVNT, 0, 3);
-    put_table(l, 2, 0, DUCAT_KIND_EVNT, 3, 1);
-    put_table(l, 3, 0, DUCAT_KIND_TTBL, 3, 1);
+    put_table(l, 0, 0, DUCAT_TTBL, 0, 3);
+    put_table(l, 1, 0, DUCAT_EVNT, 0, 3);
+    put_table(l, 2, 0, DUCAT_EVNT, 3, 1);
+    put_table(l, 3, 0, DUCAT_TTBL, 3, 1);
     put_event(l, 0, 1001, 200);
     put_event(l, 1, 1001, 100);
     put_event(l, 2, 1001, 200);
@@ -92,8 +92,8 @@ void fill_lists(struct lists *l) {
     put_template(l, 1, 200, 72);
     put_template(l, 2, 200, 73);
     put_template(l, 3, 400, 74);
-    set_count(l, DUCAT_PROVIDERS, 2);
-    set_count(l, DUCAT_TABLES, ROOM);
-    set_count(l, DUCAT_EVENTS, ROOM);
-    set_count(l, DUCAT_TEMPLATES, ROOM);
+    set_count(l, DUCAT_LIST_PROVIDERS, 2);
+    set_count(l, DUCAT_LIST_TABLES, ROOM);
+    set_count(l, DUCAT_LIST_EVENTS, ROOM);
+    set_count(l, DUCAT_LIST_TEMPLATES, ROOM);
 }

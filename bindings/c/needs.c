@@ -27,7 +27,7 @@ static void said(void) {
           answer[DUCAT_FIRST] == 116 && answer[DUCAT_SECOND] == 0, "the answer to what T needs");
     for (size_t area = 0; area < DUCAT_AREAS; area++) {
         uint32_t list = ducat_areas()[area].list;
-        int there = list == DUCAT_PROVIDERS || list == DUCAT_DESCRIPTORS || list == DUCAT_TABLES || list == DUCAT_TEMPLATES;
+        int there = list == DUCAT_LIST_PROVIDERS || list == DUCAT_LIST_DESCRIPTORS || list == DUCAT_LIST_TABLES || list == DUCAT_LIST_TEMPLATES;
         check(ducat_count(answer, list) == (there ? 1u : 0u), "what T needs");
     }
 
@@ -116,7 +116,7 @@ static void many(void) {
         check(ducat_needs(bytes, length, answer, DUCAT_NUMBERS) == DUCAT_ACCEPTED, "many definitions");
         check(answer[DUCAT_CODE] == DUCAT_ACCEPTED && answer[DUCAT_FIELD] == 0 && answer[DUCAT_PLACE] == 0 &&
               answer[DUCAT_FIRST] == length && answer[DUCAT_SECOND] == 0, "the answer to many definitions");
-        check(ducat_count(answer, DUCAT_DEFINITIONS) == (levels > DUCAT_MOST ? DUCAT_MOST + 1 : levels), "how many definitions");
+        check(ducat_count(answer, DUCAT_LIST_DEFINITIONS) == (levels > DUCAT_MOST ? DUCAT_MOST + 1 : levels), "how many definitions");
         ducat_counts(answer, capacities);
         struct lending l = lend(capacities);
         if (levels <= DUCAT_MOST) {
@@ -128,7 +128,7 @@ static void many(void) {
             take_back(&l);
             l = lend_each(DUCAT_MOST);
             check(ask(&l, bytes, length) == DUCAT_LIST_TOO_SMALL && all_kept(&l), "the most that can be lent is too little");
-            check(answered(l.answer, DUCAT_LIST_TOO_SMALL, 0, 0, DUCAT_DEFINITIONS, DUCAT_MOST), "for which list");
+            check(answered(l.answer, DUCAT_LIST_TOO_SMALL, 0, 0, DUCAT_LIST_DEFINITIONS, DUCAT_MOST), "for which list");
         }
         take_back(&l);
         free(bytes);

@@ -29,19 +29,19 @@ static void one_template(void) {
           l.answer[DUCAT_FIRST] == 116 && l.answer[DUCAT_SECOND] == 0, "the answer to T");
     for (size_t area = 0; area < DUCAT_AREAS; area++) {
         uint32_t list = ducat_areas()[area].list;
-        int there = list == DUCAT_PROVIDERS || list == DUCAT_DESCRIPTORS || list == DUCAT_TABLES || list == DUCAT_TEMPLATES;
+        int there = list == DUCAT_LIST_PROVIDERS || list == DUCAT_LIST_DESCRIPTORS || list == DUCAT_LIST_TABLES || list == DUCAT_LIST_TEMPLATES;
         check(ducat_count(l.answer, list) == (there ? 1u : 0u), "how many entries T has");
     }
 
     const struct ducat_provider provider = {{{0, 0, 0, 0}}, 36, 80, 0, 1, 0};
     const struct ducat_descriptor descriptor = {64, 0, 0x4c425454};
-    const struct ducat_table ttbl = {0, DUCAT_KIND_TTBL, 64, 52, 0, 0, 1, 0, 0};
+    const struct ducat_table ttbl = {0, DUCAT_TTBL, 64, 52, 0, 0, 1, 0, 0};
     const struct ducat_template temp = {76, 40, 0, 0, 0, 0, {{0, 0, 0, 0}}, 116, 0};
     const uint32_t *c = l.capacities;
-    check(memcmp(l.words + ducat_start(c, DUCAT_PROVIDERS), &provider, sizeof provider) == 0, "T's provider");
-    check(memcmp(l.words + ducat_start(c, DUCAT_DESCRIPTORS), &descriptor, sizeof descriptor) == 0, "T's descriptor");
-    check(memcmp(l.words + ducat_start(c, DUCAT_TABLES), &ttbl, sizeof ttbl) == 0, "T's table");
-    check(memcmp(l.words + ducat_start(c, DUCAT_TEMPLATES), &temp, sizeof temp) == 0, "T's template");
+    check(memcmp(l.words + ducat_start(c, DUCAT_LIST_PROVIDERS), &provider, sizeof provider) == 0, "T's provider");
+    check(memcmp(l.words + ducat_start(c, DUCAT_LIST_DESCRIPTORS), &descriptor, sizeof descriptor) == 0, "T's descriptor");
+    check(memcmp(l.words + ducat_start(c, DUCAT_LIST_TABLES), &ttbl, sizeof ttbl) == 0, "T's table");
+    check(memcmp(l.words + ducat_start(c, DUCAT_LIST_TEMPLATES), &temp, sizeof temp) == 0, "T's template");
     check(others_kept(&l), "words that no entry of T needs");
     take_back(&l);
 }
@@ -72,7 +72,7 @@ static void refused(void) {
     struct lending none = lend_each(0);
     struct block t = block_t();
     check(ask_block(&none, &t) == DUCAT_LIST_TOO_SMALL, "T without room");
-    check(answered(none.answer, DUCAT_LIST_TOO_SMALL, 0, 0, DUCAT_PROVIDERS, 0) && all_kept(&none), "the answer to T without room");
+    check(answered(none.answer, DUCAT_LIST_TOO_SMALL, 0, 0, DUCAT_LIST_PROVIDERS, 0) && all_kept(&none), "the answer to T without room");
     take_back(&none);
 }
 
