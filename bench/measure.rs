@@ -22,7 +22,7 @@ impl Lent {
     pub fn library(&mut self, blob: &[u8]) -> u32 {
         let mut answer = [0; raw::NUMBERS];
         let capacities = Capacities::MOST.in_order();
-        let code = raw::ducat_read(black_box(blob), &mut self.words, &capacities, &mut answer);
+        let code = raw::ducat_read(black_box(blob), &mut self.words, capacities, &mut answer);
         black_box((&self.words, &answer));
         code
     }

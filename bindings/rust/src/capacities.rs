@@ -1,126 +1,83 @@
-//! How many entries each list has room for.
+//! How many entries each list has room for, or needs.
 
 use std::fmt;
 
-/// The ten lists, by their numbers.
-#[derive(Clone, Copy, Debug, PartialEq, Eq, Hash)]
-pub enum List {
-    Providers = 1,
-    Descriptors,
-    Unknown2,
-    Tables,
-    Definitions,
-    Events,
-    Maps,
-    MapEntries,
-    Templates,
-    UnknownElements,
-}
+use crate::list::{LISTS, List};
 
-impl List {
-    pub const ALL: [List; 10] = [
-        List::Providers,
-        List::Descriptors,
-        List::Unknown2,
-        List::Tables,
-        List::Definitions,
-        List::Events,
-        List::Maps,
-        List::MapEntries,
-        List::Templates,
-        List::UnknownElements,
-    ];
-
-    /// The words of one entry.
-    pub const fn words(self) -> usize {
-        [9, 3, 1, 9, 12, 16, 11, 2, 12, 4][self as usize - 1]
-    }
-}
-
-impl fmt::Display for List {
-    fn fmt(&self, f: &mut fmt::Formatter<'_>) -> fmt::Result {
-        f.write_str(match self {
-            List::Providers => "providers",
-            List::Descriptors => "descriptors",
-            List::Unknown2 => "unknown2 words",
-            List::Tables => "tables",
-            List::Definitions => "definitions",
-            List::Events => "events",
-            List::Maps => "maps",
-            List::MapEntries => "map entries",
-            List::Templates => "templates",
-            List::UnknownElements => "unknown elements",
-        })
-    }
-}
-
-/// How many entries each list has room for. A number over 65,536 is refused.
-#[derive(Clone, Copy, Debug, PartialEq, Eq)]
-pub struct Capacities {
-    pub providers: u32,
-    pub descriptors: u32,
-    pub unknown2: u32,
-    pub tables: u32,
-    pub definitions: u32,
-    pub events: u32,
-    pub maps: u32,
-    pub map_entries: u32,
-    pub templates: u32,
-    pub unknown_elements: u32,
-}
+/// How many entries each list has room for, or needs.
+///
+/// ```
+/// use ducatfeather::{Capacities, List};
+///
+/// let capacities = Capacities::each(64).with(List::Templates, 1_000);
+/// assert_eq!(capacities.of(List::Templates), 1_000);
+/// assert_eq!(capacities.of(List::Events), 64);
+/// ```
+#[derive(Clone, Copy, PartialEq, Eq, Hash)]
+pub struct Capacities([u32; LISTS]);
 
 impl Capacities {
-    /// The most entries that a list may have room for.
+    /// The most entries that a list may have room for. More is refused.
     pub const LIMIT: u32 = 65_536;
 
-    /// As much room as there can be. Memory that isn't needed isn't touched.
+    /// As much room as there can be.
     pub const MOST: Capacities = Capacities::each(Capacities::LIMIT);
 
     /// The same room for each list.
     pub const fn each(entries: u32) -> Capacities {
-        Capacities {
-            providers: entries,
-            descriptors: entries,
-            unknown2: entries,
-            tables: entries,
-            definitions: entries,
-            events: entries,
-            maps: entries,
-            map_entries: entries,
-            templates: entries,
-            unknown_elements: entries,
-        }
+        Capacities([entries; LISTS])
     }
 
-    /// The ten numbers, in list order.
-    pub const fn in_order(&self) -> [u32; 10] {
-        [
-            self.providers,
-            self.descriptors,
-            self.unknown2,
-            self.tables,
-            self.definitions,
-            self.events,
-            self.maps,
-            self.map_entries,
-            self.templates,
-            self.unknown_elements,
-        ]
+    /// The same room but for one list.
+    #[must_use]
+    pub const fn with(mut self, list: List, entries: u32) -> Capacities {
+        self.0[list.position()] = entries;
+        self
     }
 
-    /// How many words the ten areas need; nothing if a number is over the limit, so that nobody
+    /// The room for a list.
+    pub const fn of(&self, list: List) -> u32 {
+        self.0[list.position()]
+    }
+
+    /// The numbers as the functions of [`raw`](crate::raw) take them: in the order of
+    /// [`List::all`].
+    pub const fn in_order(&self) -> &[u32] {
+        &self.0
+    }
+
+    /// How many words the areas need; nothing if a number is over the limit, so that nobody
     /// allocates for what is refused.
     pub fn words(&self) -> Option<usize> {
-        let capacities = self.in_order();
-        if capacities.iter().any(|&entries| entries > Self::LIMIT) {
-            return None;
-        }
-        Some(
-            List::ALL
-                .iter()
-                .zip(capacities)
-                .map(|(list, entries)| list.words() * entries as usize)
-                .sum(),
-        )
+        let lendable = self.0.iter().all(|&entries| entries <= Self::LIMIT);
+        lendable.then(|| self.areas().sum())
+    }
+
+    /// In words, where a list's area starts.
+    pub(crate) fn start(&self, list: List) -> usize {
+        self.areas().take(list.position()).sum()
+    }
+
+    /// The words of each area.
+    fn areas(&self) -> impl Iterator<Item = usize> {
+        let each = List::all().zip(self.0);
+        each.map(|(list, entries)| list.words() * entries as usize)
+    }
+
+    /// The same room, but no more than there can be.
+    pub(crate) fn lendable(self) -> Capacities {
+        Capacities(self.0.map(|entries| entries.min(Self::LIMIT)))
+    }
+
+    /// The counts of an answer. None is over 32 bits.
+    pub(crate) fn from_counts(counts: [u64; LISTS]) -> Capacities {
+        Capacities(counts.map(|count| count as u32))
+    }
+}
+
+/// Each number beside its list.
+impl fmt::Debug for Capacities {
+    fn fmt(&self, f: &mut fmt::Formatter<'_>) -> fmt::Result {
+        f.debug_map().entries(List::all().zip(self.0)).finish()
     }
 }

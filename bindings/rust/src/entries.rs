@@ -4,14 +4,13 @@ use std::iter::FusedIterator;
 use std::marker::PhantomData;
 use std::ops::Range;
 
-use crate::capacities::List;
+use crate::list::List;
+use crate::words::FromWords;
 
-/// What a list's words are read as.
-pub trait Entry<'a>: Sized {
+/// What a list's words are read as. The types of this crate are all that there are.
+pub trait Entry<'a>: FromWords<'a> {
+    /// The list that it is an entry of.
     const LIST: List;
-
-    /// The entry of so many words, as many as the list's entries have, read from this block.
-    fn from_words(words: &[u32], block: &'a [u8]) -> Self;
 }
 
 /// The entries of a list, in its order.
@@ -22,6 +21,9 @@ pub struct Entries<'a, T> {
 }
 
 impl<'a, T: Entry<'a>> Entries<'a, T> {
+    /// The words of one entry.
+    const WORDS: usize = T::LIST.words();
+
     /// The words are those of whole entries.
     pub(crate) fn new(words: &'a [u32], block: &'a [u8]) -> Entries<'a, T> {
         Entries {
@@ -40,8 +42,8 @@ impl<'a, T: Entry<'a>> Entries<'a, T> {
     pub fn part(&self, range: Range<usize>) -> Entries<'a, T> {
         let end = range.end.min(self.len());
         let start = range.start.min(end);
-        let words = T::LIST.words();
-        Entries::new(&self.words[words * start..words * end], self.block)
+        let words = &self.words[Self::WORDS * start..Self::WORDS * end];
+        Entries::new(words, self.block)
     }
 }
 
@@ -49,7 +51,7 @@ impl<'a, T: Entry<'a>> Iterator for Entries<'a, T> {
     type Item = T;
 
     fn next(&mut self) -> Option<T> {
-        let (entry, rest) = self.words.split_at_checked(T::LIST.words())?;
+        let (entry, rest) = self.words.split_at_checked(Self::WORDS)?;
         self.words = rest;
         Some(T::from_words(entry, self.block))
     }
@@ -60,7 +62,7 @@ impl<'a, T: Entry<'a>> Iterator for Entries<'a, T> {
     }
 
     fn size_hint(&self) -> (usize, Option<usize>) {
-        let left = self.words.len() / T::LIST.words();
+        let left = self.words.len() / Self::WORDS;
         (left, Some(left))
     }
 }

@@ -2,26 +2,35 @@
 
 use std::ops::Range;
 
-use crate::capacities::List;
 use crate::entries::Entry;
+use crate::list::List;
 use crate::parts::{Guid, Name, Part, Signature};
 
-/// List 1.
+/// List 1: a provider.
 #[derive(Clone, Copy, Debug, PartialEq, Eq)]
+#[non_exhaustive]
 pub struct Provider {
+    /// Its GUID.
     pub guid: Guid,
     /// The place of its WEVT.
     pub offset: u32,
+    /// The size that its WEVT says, which isn't tested.
     pub size: u32,
+    /// The number of its message.
     pub message: Option<u32>,
+    /// How many descriptors it has.
     pub descriptor_count: u32,
+    /// How many unknown2 words it has.
     pub unknown2_count: u32,
 }
 
-/// List 2.
+/// List 2: where an element of a provider stands.
 #[derive(Clone, Copy, Debug, PartialEq, Eq)]
+#[non_exhaustive]
 pub struct Descriptor {
+    /// The element's place.
     pub offset: u32,
+    /// The descriptor's other word, whose meaning isn't known.
     pub unknown: u32,
     /// What its element starts with.
     pub signature: Signature,
@@ -29,24 +38,37 @@ pub struct Descriptor {
 
 /// The kinds of tables, by their numbers.
 #[derive(Clone, Copy, Debug, PartialEq, Eq, Hash)]
+#[non_exhaustive]
 pub enum Kind {
+    /// Channels.
     Chan = 1,
-    Evnt,
-    Keyw,
-    Levl,
-    Maps,
-    Opco,
-    Task,
-    Ttbl,
+    /// Events.
+    Evnt = 2,
+    /// Keywords.
+    Keyw = 3,
+    /// Levels.
+    Levl = 4,
+    /// Maps.
+    Maps = 5,
+    /// Opcodes.
+    Opco = 6,
+    /// Tasks.
+    Task = 7,
+    /// Templates.
+    Ttbl = 8,
 }
 
-/// List 4.
+/// List 4: a table of a provider.
 #[derive(Clone, Debug, PartialEq, Eq)]
+#[non_exhaustive]
 pub struct Table<'a> {
     /// The number of the provider that it belongs to.
     pub provider: u32,
+    /// What it is a table of.
     pub kind: Kind,
+    /// Its place.
     pub offset: u32,
+    /// Its size as it says it, which may be 0.
     pub size: u32,
     /// An EVNT's word at byte 12.
     pub extra: u32,
@@ -58,11 +80,17 @@ pub struct Table<'a> {
 
 /// List 5: a record of CHAN, KEYW, LEVL, OPCO or TASK.
 #[derive(Clone, Copy, Debug, PartialEq, Eq)]
+#[non_exhaustive]
 pub struct Definition<'a> {
+    /// The kind of its table.
     pub kind: Kind,
+    /// What events name it by. Only a KEYW's has more than 32 bits.
     pub identifier: u64,
+    /// The number of its message.
     pub message: Option<u32>,
+    /// The place of its name; 0 if it has none.
     pub name_offset: u32,
+    /// Its name.
     pub name: Option<Name<'a>>,
     /// Only a CHAN has it.
     pub unknown: u32,
@@ -70,354 +98,161 @@ pub struct Definition<'a> {
     pub mui: Guid,
 }
 
-/// List 6.
+/// List 6: an event.
 #[derive(Clone, Copy, Debug, PartialEq, Eq)]
+#[non_exhaustive]
 pub struct Event {
+    /// Its identifier, which a log has too, as the six below.
     pub identifier: u16,
+    /// Its version.
     pub version: u8,
+    /// Its channel.
     pub channel: u8,
+    /// Its level.
     pub level: u8,
+    /// Its opcode.
     pub opcode: u8,
+    /// Its task.
     pub task: u16,
+    /// Its keywords, a bit for each.
     pub keywords: u64,
-    /// Here no number means that there is none.
+    /// The number of its message. Here no number means that there is none.
     pub message: u32,
+    /// The place of its template.
     pub template_offset: Option<u32>,
+    /// The place of its opcode's definition.
     pub opcode_offset: Option<u32>,
+    /// The place of its level's definition.
     pub level_offset: Option<u32>,
+    /// The place of its task's definition.
     pub task_offset: Option<u32>,
+    /// A count whose meaning isn't known.
     pub unknown_count: u32,
+    /// An offset whose meaning isn't known.
     pub unknown_offset: u32,
+    /// Its flags.
     pub flags: u32,
 }
 
+/// The kinds of maps, by their numbers.
 #[derive(Clone, Copy, Debug, PartialEq, Eq, Hash)]
+#[non_exhaustive]
 pub enum MapKind {
+    /// Values: a VMAP.
     Vmap = 1,
-    Bmap,
-    Other,
+    /// Bits: a BMAP.
+    Bmap = 2,
+    /// What starts with another signature.
+    Other = 3,
 }
 
-/// List 7. Only a VMAP has a size, a name and entries.
+/// List 7: a map. Only a VMAP has a size, a name and entries.
 #[derive(Clone, Debug, PartialEq, Eq)]
+#[non_exhaustive]
 pub struct Map<'a> {
+    /// What it is a map of.
     pub kind: MapKind,
+    /// What it starts with.
     pub signature: Signature,
+    /// Its place.
     pub offset: u32,
+    /// Its size.
     pub size: u32,
+    /// The place of its name; 0 if it has none.
     pub string_offset: u32,
+    /// Its name.
     pub name: Option<Name<'a>>,
     /// The numbers of its map entries.
     pub entries: Range<usize>,
+    /// What stands behind a VMAP's entries; of any other map its first bytes, up to 4.
     pub data: Part<'a>,
 }
 
-/// List 8.
+/// List 8: an entry of a VMAP.
 #[derive(Clone, Copy, Debug, PartialEq, Eq)]
+#[non_exhaustive]
 pub struct MapEntry {
+    /// The value that it is about.
     pub identifier: u32,
+    /// The number of its message.
     pub message: Option<u32>,
 }
 
-/// List 9.
+/// List 9: a template.
 #[derive(Clone, Copy, Debug, PartialEq, Eq)]
+#[non_exhaustive]
 pub struct Template<'a> {
+    /// Its place.
     pub offset: u32,
+    /// Its size.
     pub size: u32,
+    /// How many items it has.
     pub item_descriptor_count: u32,
+    /// How many names its items have.
     pub item_name_count: u32,
+    /// The place of its items; 0 stands for its end.
     pub items_offset: u32,
+    /// Its event type.
     pub event_type: u32,
+    /// Its GUID.
     pub guid: Guid,
+    /// Its BinXML.
     pub binxml: Part<'a>,
 }
 
-/// List 10.
+/// List 10: an element that is no table of a known kind.
 #[derive(Clone, Copy, Debug, PartialEq, Eq)]
+#[non_exhaustive]
 pub struct UnknownElement<'a> {
     /// The number of the provider that it belongs to.
     pub provider: u32,
+    /// What it starts with.
     pub signature: Signature,
+    /// Its place.
     pub offset: u32,
+    /// Its size.
     pub size: u32,
     /// All its bytes, signature and size included.
     pub data: Part<'a>,
 }
 
-/// A message's number; the highest there is says that there is none.
-fn message(word: u32) -> Option<u32> {
-    (word != u32::MAX).then_some(word)
-}
-
-/// An offset in an event; 0 says that there is none.
-fn offset(word: u32) -> Option<u32> {
-    (word != 0).then_some(word)
-}
-
-fn long(low: u32, high: u32) -> u64 {
-    u64::from(low) | u64::from(high) << 32
-}
-
-/// Numbers of entries, from the first on.
-fn numbers(first: u32, count: u32) -> Range<usize> {
-    first as usize..(first + count) as usize
-}
-
-/// The entry's words, by their number.
-fn exactly<const N: usize>(words: &[u32]) -> [u32; N] {
-    words.try_into().expect("an entry's words")
-}
-
-impl Kind {
-    fn from_word(word: u32) -> Kind {
-        match word {
-            1 => Kind::Chan,
-            2 => Kind::Evnt,
-            3 => Kind::Keyw,
-            4 => Kind::Levl,
-            5 => Kind::Maps,
-            6 => Kind::Opco,
-            7 => Kind::Task,
-            8 => Kind::Ttbl,
-            _ => unreachable!("there is no kind {word}"),
-        }
-    }
-}
-
 impl Entry<'_> for Provider {
     const LIST: List = List::Providers;
-
-    fn from_words(words: &[u32], _: &[u8]) -> Provider {
-        let [
-            a,
-            b,
-            c,
-            d,
-            offset,
-            size,
-            text,
-            descriptor_count,
-            unknown2_count,
-        ] = exactly(words);
-        Provider {
-            guid: Guid::from_words([a, b, c, d]),
-            offset,
-            size,
-            message: message(text),
-            descriptor_count,
-            unknown2_count,
-        }
-    }
 }
 
 impl Entry<'_> for Descriptor {
     const LIST: List = List::Descriptors;
-
-    fn from_words(words: &[u32], _: &[u8]) -> Descriptor {
-        let [offset, unknown, signature] = exactly(words);
-        Descriptor {
-            offset,
-            unknown,
-            signature: Signature::from_word(signature),
-        }
-    }
 }
 
 /// An entry of list 3 is its word.
 impl Entry<'_> for u32 {
     const LIST: List = List::Unknown2;
-
-    fn from_words(words: &[u32], _: &[u8]) -> u32 {
-        let [word] = exactly(words);
-        word
-    }
 }
 
 impl<'a> Entry<'a> for Table<'a> {
     const LIST: List = List::Tables;
-
-    fn from_words(words: &[u32], block: &'a [u8]) -> Table<'a> {
-        let [
-            provider,
-            kind,
-            offset,
-            size,
-            extra,
-            first,
-            count,
-            start,
-            length,
-        ] = exactly(words);
-        Table {
-            provider,
-            kind: Kind::from_word(kind),
-            offset,
-            size,
-            extra,
-            entries: numbers(first, count),
-            trailing: Part::of(block, start, length),
-        }
-    }
 }
 
 impl<'a> Entry<'a> for Definition<'a> {
     const LIST: List = List::Definitions;
-
-    fn from_words(words: &[u32], block: &'a [u8]) -> Definition<'a> {
-        let [
-            kind,
-            low,
-            high,
-            text,
-            offset,
-            start,
-            units,
-            unknown,
-            mui @ ..,
-        ] = exactly::<12>(words);
-        Definition {
-            kind: Kind::from_word(kind),
-            identifier: long(low, high),
-            message: message(text),
-            name_offset: offset,
-            name: Name::of(block, offset, start, units),
-            unknown,
-            mui: Guid::from_words(mui),
-        }
-    }
 }
 
 impl Entry<'_> for Event {
     const LIST: List = List::Events;
-
-    fn from_words(words: &[u32], _: &[u8]) -> Event {
-        let [
-            identifier,
-            version,
-            channel,
-            level,
-            opcode,
-            task,
-            low,
-            high,
-            message,
-            template_offset,
-            opcode_offset,
-            level_offset,
-            task_offset,
-            unknown_count,
-            unknown_offset,
-            flags,
-        ] = exactly(words);
-        // The narrow fields were read from one or two bytes.
-        Event {
-            identifier: identifier as u16,
-            version: version as u8,
-            channel: channel as u8,
-            level: level as u8,
-            opcode: opcode as u8,
-            task: task as u16,
-            keywords: long(low, high),
-            message,
-            template_offset: offset(template_offset),
-            opcode_offset: offset(opcode_offset),
-            level_offset: offset(level_offset),
-            task_offset: offset(task_offset),
-            unknown_count,
-            unknown_offset,
-            flags,
-        }
-    }
 }
 
 impl<'a> Entry<'a> for Map<'a> {
     const LIST: List = List::Maps;
-
-    fn from_words(words: &[u32], block: &'a [u8]) -> Map<'a> {
-        let [
-            kind,
-            signature,
-            offset,
-            size,
-            string_offset,
-            name_start,
-            name_units,
-            first,
-            count,
-            start,
-            length,
-        ] = exactly(words);
-        Map {
-            kind: match kind {
-                1 => MapKind::Vmap,
-                2 => MapKind::Bmap,
-                _ => MapKind::Other,
-            },
-            signature: Signature::from_word(signature),
-            offset,
-            size,
-            string_offset,
-            name: Name::of(block, string_offset, name_start, name_units),
-            entries: numbers(first, count),
-            data: Part::of(block, start, length),
-        }
-    }
 }
 
 impl Entry<'_> for MapEntry {
     const LIST: List = List::MapEntries;
-
-    fn from_words(words: &[u32], _: &[u8]) -> MapEntry {
-        let [identifier, text] = exactly(words);
-        MapEntry {
-            identifier,
-            message: message(text),
-        }
-    }
 }
 
 impl<'a> Entry<'a> for Template<'a> {
     const LIST: List = List::Templates;
-
-    fn from_words(words: &[u32], block: &'a [u8]) -> Template<'a> {
-        let [
-            offset,
-            size,
-            item_descriptor_count,
-            item_name_count,
-            items_offset,
-            event_type,
-            a,
-            b,
-            c,
-            d,
-            start,
-            length,
-        ] = exactly(words);
-        Template {
-            offset,
-            size,
-            item_descriptor_count,
-            item_name_count,
-            items_offset,
-            event_type,
-            guid: Guid::from_words([a, b, c, d]),
-            binxml: Part::of(block, start, length),
-        }
-    }
 }
 
 impl<'a> Entry<'a> for UnknownElement<'a> {
     const LIST: List = List::UnknownElements;
-
-    fn from_words(words: &[u32], block: &'a [u8]) -> UnknownElement<'a> {
-        let [provider, signature, offset, size] = exactly(words);
-        UnknownElement {
-            provider,
-            signature: Signature::from_word(signature),
-            offset,
-            size,
-            data: Part::of(block, offset, size),
-        }
-    }
 }

@@ -1,20 +1,19 @@
-//! The texts of the field codes, out of docs/FIELDS.md so that there is one table of them.
+//! The field codes and their texts, as docs/FIELDS.md has them.
 
 use std::fmt;
 
-const TABLE: &str = include_str!("../../../docs/FIELDS.md");
-
 /// The part of a block that a refusal is about. Shown, it is its text, as `TEMP.size`.
 #[derive(Clone, Copy, Debug, PartialEq, Eq, Hash)]
-pub struct Field(pub u32);
+pub struct Field(
+    /// The field code.
+    pub u32,
+);
 
 impl Field {
-    /// The field's text; none for a code that isn't in the table.
+    /// The field's text; none for a code that has none.
     pub fn text(self) -> Option<&'static str> {
-        TABLE
-            .lines()
-            .filter_map(row)
-            .find_map(|(number, text)| (number == self.0).then_some(text))
+        let row = TEXTS.iter().find(|(code, _)| *code == self.0);
+        row.map(|(_, text)| *text)
     }
 }
 
@@ -27,10 +26,160 @@ impl fmt::Display for Field {
     }
 }
 
-/// A line of the table: `| number | `text` | .. |`. Any other line gives nothing.
-fn row(line: &'static str) -> Option<(u32, &'static str)> {
-    let mut cells = line.strip_prefix('|')?.split('|').map(str::trim);
-    let number = cells.next()?.parse().ok()?;
-    let text = cells.next()?.strip_prefix('`')?.strip_suffix('`')?;
-    Some((number, text))
-}
+const TEXTS: &[(u32, &str)] = &[
+    (1, "CRIM signature"),
+    (2, "CRIM.size"),
+    (3, "CRIM.major_version"),
+    (4, "CRIM.minor_version"),
+    (5, "CRIM.provider_count"),
+    (6, "CRIM provider descriptor array"),
+    (7, "CRIM.provider.guid"),
+    (8, "CRIM.provider.offset"),
+    (9, "WEVT provider offset"),
+    (10, "WEVT header"),
+    (11, "WEVT signature"),
+    (12, "WEVT.size"),
+    (13, "WEVT.message_identifier"),
+    (14, "WEVT.number_of_descriptors"),
+    (15, "WEVT.number_of_unknown2"),
+    (16, "WEVT descriptor array"),
+    (17, "WEVT.descriptor.element_offset"),
+    (18, "WEVT.descriptor.unknown"),
+    (19, "WEVT element offset"),
+    (20, "WEVT element signature"),
+    (21, "WEVT unknown2 array"),
+    (22, "WEVT.unknown2"),
+    (23, "provider element offset"),
+    (24, "unknown element header"),
+    (25, "provider element size"),
+    (26, "unknown element end"),
+    (27, "CHAN offset"),
+    (28, "CHAN header"),
+    (29, "CHAN signature"),
+    (30, "CHAN.size"),
+    (31, "CHAN.count"),
+    (32, "CHAN definitions array"),
+    (33, "EVNT offset"),
+    (34, "EVNT header"),
+    (35, "EVNT signature"),
+    (36, "EVNT.size"),
+    (37, "EVNT.count"),
+    (38, "EVNT event array"),
+    (39, "KEYW offset"),
+    (40, "KEYW header"),
+    (41, "KEYW signature"),
+    (42, "KEYW.size"),
+    (43, "KEYW.count"),
+    (44, "KEYW definitions array"),
+    (45, "LEVL offset"),
+    (46, "LEVL header"),
+    (47, "LEVL signature"),
+    (48, "LEVL.size"),
+    (49, "LEVL.count"),
+    (50, "LEVL definitions array"),
+    (51, "MAPS offset"),
+    (52, "MAPS header"),
+    (53, "MAPS signature"),
+    (54, "MAPS.size"),
+    (55, "MAPS.count"),
+    (56, "MAPS definitions array"),
+    (57, "OPCO offset"),
+    (58, "OPCO header"),
+    (59, "OPCO signature"),
+    (60, "OPCO.size"),
+    (61, "OPCO.count"),
+    (62, "OPCO definitions array"),
+    (63, "TASK offset"),
+    (64, "TASK header"),
+    (65, "TASK signature"),
+    (66, "TASK.size"),
+    (67, "TASK.count"),
+    (68, "TASK definitions array"),
+    (69, "TTBL offset"),
+    (70, "TTBL header"),
+    (71, "TTBL signature"),
+    (72, "TTBL.size"),
+    (73, "TTBL.count"),
+    (74, "TTBL definitions array"),
+    (75, "CHAN name"),
+    (76, "KEYW data"),
+    (77, "LEVL data"),
+    (78, "OPCO data"),
+    (79, "TASK data"),
+    (80, "TEMP header"),
+    (81, "TEMP signature"),
+    (82, "TEMP.size"),
+    (83, "TEMP.item_descriptor_count"),
+    (84, "TEMP.item_name_count"),
+    (85, "TEMP.template_items_offset"),
+    (86, "TEMP.event_type"),
+    (87, "TEMP.guid"),
+    (
+        88,
+        "TEMP.item_name_count (expected 0 when item_descriptor_count == 0)",
+    ),
+    (89, "TEMP.template_items_offset (relative)"),
+    (90, "MAPS offsets array"),
+    (91, "MAPS.map_offset"),
+    (92, "MAPS map offset"),
+    (93, "MAPS map signature"),
+    (94, "VMAP size field"),
+    (95, "VMAP header"),
+    (96, "VMAP.size"),
+    (97, "VMAP.map_string_offset"),
+    (98, "VMAP.entry_count"),
+    (99, "VMAP entries array"),
+    (100, "VMAP.entry.identifier"),
+    (101, "VMAP.entry.message_identifier"),
+    (102, "VMAP map string"),
+    (103, "CHAN.identifier"),
+    (104, "CHAN.name_offset"),
+    (105, "CHAN.unknown"),
+    (106, "CHAN.message_identifier"),
+    (107, "EVNT.unknown"),
+    (108, "EVNT.event.identifier"),
+    (109, "EVNT.event.version"),
+    (110, "EVNT.event.channel"),
+    (111, "EVNT.event.level"),
+    (112, "EVNT.event.opcode"),
+    (113, "EVNT.event.task"),
+    (114, "EVNT.event.keywords"),
+    (115, "EVNT.event.message_identifier"),
+    (116, "EVNT.event.template_offset"),
+    (117, "EVNT.event.opcode_offset"),
+    (118, "EVNT.event.level_offset"),
+    (119, "EVNT.event.task_offset"),
+    (120, "EVNT.event.unknown_count"),
+    (121, "EVNT.event.unknown_offset"),
+    (122, "EVNT.event.flags"),
+    (123, "KEYW.identifier"),
+    (124, "KEYW.message_identifier"),
+    (125, "KEYW.data_offset"),
+    (126, "LEVL.identifier"),
+    (127, "LEVL.message_identifier"),
+    (128, "LEVL.data_offset"),
+    (129, "OPCO.identifier"),
+    (130, "OPCO.message_identifier"),
+    (131, "OPCO.data_offset"),
+    (132, "TASK.identifier"),
+    (133, "TASK.message_identifier"),
+    (134, "TASK.mui_identifier"),
+    (135, "TASK.data_offset"),
+    (
+        136,
+        "TEMP.template_items_offset (expected 0 or end-of-template when item_descriptor_count==0)",
+    ),
+    (137, "template item descriptors"),
+    (138, "TEMP.item.unknown1"),
+    (139, "TEMP.item.input_type"),
+    (140, "TEMP.item.output_type"),
+    (141, "TEMP.item.unknown3"),
+    (142, "TEMP.item.unknown4"),
+    (143, "TEMP.item.count"),
+    (144, "TEMP.item.length"),
+    (145, "TEMP.item.name_offset"),
+    (146, "template item name_offset"),
+    (147, "template item name_offset (relative)"),
+    (148, "template item name_offset overlaps descriptor table"),
+    (149, "template item name"),
+];

@@ -7,13 +7,21 @@ use crate::raw;
 /// What an event is looked up by: its provider's GUID, and the fields that a log has of it.
 #[derive(Clone, Copy, Debug, PartialEq, Eq, Hash)]
 pub struct Key {
+    /// The provider's GUID.
     pub guid: Guid,
+    /// The event's identifier.
     pub event_id: u16,
+    /// Its version.
     pub version: u8,
+    /// Its channel.
     pub channel: u8,
+    /// Its level.
     pub level: u8,
+    /// Its opcode.
     pub opcode: u8,
+    /// Its task.
     pub task: u16,
+    /// Its keywords.
     pub keywords: u64,
 }
 

@@ -1,11 +1,9 @@
 //! Reads CRIM blocks: what a block holds, entry by entry, or why it is refused. Finds templates in
 //! what was read.
 //!
-//! ```no_run
-//! # let blob: Vec<u8> = Vec::new();
-//! use ducatfeather::{Capacities, read};
-//!
-//! match read(&blob, &Capacities::MOST) {
+//! ```
+//! # let blob = std::fs::read("../../samples/drive.crim").unwrap();
+//! match ducatfeather::read(&blob) {
 //!     Ok(manifest) => {
 //!         for template in manifest.templates() {
 //!             println!("{} at {}", template.guid, template.offset);
@@ -17,39 +15,47 @@
 //!
 //! An event in a log is joined to its template by its key:
 //!
-//! ```no_run
-//! # let blob: Vec<u8> = Vec::new();
-//! # let key = ducatfeather::Key {
-//! #     guid: ducatfeather::Guid([0; 16]),
-//! #     event_id: 0,
-//! #     version: 0,
-//! #     channel: 0,
-//! #     level: 0,
-//! #     opcode: 0,
-//! #     task: 0,
-//! #     keywords: 0,
-//! # };
-//! # let manifest = ducatfeather::read(&blob, &ducatfeather::Capacities::MOST)?;
-//! for guid in manifest.templates_for(&key)? {
-//!     println!("{guid}");
-//! }
-//! # Ok::<(), ducatfeather::Refusal>(())
+//! ```
+//! # let blob = std::fs::read("../../samples/drive.crim")?;
+//! let manifest = ducatfeather::read(&blob)?;
+//! # let guid = manifest.providers().next().unwrap().guid;
+//! let key = ducatfeather::Key {
+//!     guid, // of the event's provider
+//!     event_id: 100,
+//!     version: 0,
+//!     channel: 16,
+//!     level: 4,
+//!     opcode: 1,
+//!     task: 1,
+//!     keywords: 1,
+//! };
+//! let guids = manifest.templates_for(&key)?;
+//! # assert_eq!(guids, [manifest.templates().next().unwrap().guid]);
+//! # Ok::<(), Box<dyn std::error::Error>>(())
 //! ```
 //!
 //! Reading and finding are done by the library that this crate is linked with; here its words are
 //! only given names and types. docs/FORMAT.md says what each of them means.
+//!
+//! Lists, fields of entries and codes of refusals may be added. So structs and enums that gain by
+//! it are made here alone, and matching them takes a `..` or a `_`.
+
+#![deny(missing_docs)]
 
 mod capacities;
 mod entries;
 mod entry;
 mod fields;
 mod key;
+mod list;
 mod manifest;
 mod parts;
 pub mod raw;
+mod read;
 mod refusal;
+mod words;
 
-pub use capacities::{Capacities, List};
+pub use capacities::Capacities;
 pub use entries::{Entries, Entry};
 pub use entry::{
     Definition, Descriptor, Event, Kind, Map, MapEntry, MapKind, Provider, Table, Template,
@@ -57,6 +63,8 @@ pub use entry::{
 };
 pub use fields::Field;
 pub use key::Key;
-pub use manifest::{Manifest, read, read_into};
+pub use list::List;
+pub use manifest::Manifest;
 pub use parts::{Guid, Name, Part, Signature};
+pub use read::{needs, read, read_into};
 pub use refusal::Refusal;

@@ -1,87 +1,46 @@
-//! Reading a block, and what it holds.
+//! What a block holds.
 
 use std::borrow::Cow;
 use std::ops::Range;
 
-use crate::capacities::{Capacities, List};
+use crate::capacities::Capacities;
 use crate::entries::{Entries, Entry};
 use crate::entry::{
     Definition, Descriptor, Event, Map, MapEntry, Provider, Table, Template, UnknownElement,
 };
 use crate::key::Key;
+use crate::list::List;
 use crate::parts::Guid;
 use crate::raw;
+use crate::read::Accepted;
 use crate::refusal::Refusal;
 
-/// What an accepted block holds: ten lists.
+/// What an accepted block holds: its lists.
 #[derive(Clone, Debug)]
 pub struct Manifest<'a> {
     /// The first `CRIM.size` bytes of what was lent.
     block: &'a [u8],
-    major: u16,
-    minor: u16,
+    version: (u16, u16),
     words: Cow<'a, [u32]>,
-    /// What it was read with, in list order.
-    capacities: [u32; 10],
-    /// In words, where each list's area starts; in entries, how many it has.
-    areas: [(usize, usize); 10],
-}
-
-/// Reads a block into words that are allocated for it.
-pub fn read<'a>(blob: &'a [u8], capacities: &Capacities) -> Result<Manifest<'a>, Refusal> {
-    // A capacity over the limit is refused before the words matter, so none are allocated for it.
-    let mut words = vec![0; capacities.words().unwrap_or(0)];
-    let answer = ask(blob, capacities, &mut words)?;
-    Ok(Manifest::new(blob, capacities, words.into(), &answer))
-}
-
-/// Reads a block into lent words, at least `capacities.words()` of them. On a refusal they keep
-/// their values.
-pub fn read_into<'a>(
-    blob: &'a [u8],
-    capacities: &Capacities,
-    words: &'a mut [u32],
-) -> Result<Manifest<'a>, Refusal> {
-    let answer = ask(blob, capacities, words)?;
-    let words: &[u32] = words;
-    Ok(Manifest::new(blob, capacities, words.into(), &answer))
-}
-
-/// The answer's numbers, if the block is accepted.
-fn ask(
-    blob: &[u8],
-    capacities: &Capacities,
-    words: &mut [u32],
-) -> Result<[u64; raw::NUMBERS], Refusal> {
-    let mut answer = [0; raw::NUMBERS];
-    match raw::ducat_read(blob, words, &capacities.in_order(), &mut answer) {
-        0 => Ok(answer),
-        _ => Err(Refusal::from_answer(&answer)),
-    }
+    /// What it was read with.
+    capacities: Capacities,
+    /// How many entries each list has.
+    counts: Capacities,
 }
 
 impl<'a> Manifest<'a> {
-    fn new(
+    pub(crate) fn new(
         blob: &'a [u8],
-        capacities: &Capacities,
         words: Cow<'a, [u32]>,
-        answer: &[u64; raw::NUMBERS],
+        capacities: Capacities,
+        answer: &Accepted,
     ) -> Manifest<'a> {
-        let [_, _, _, size, versions, counts @ ..] = *answer;
-        let capacities = capacities.in_order();
-        let mut start = 0;
-        let areas = std::array::from_fn(|i| {
-            let area = (start, counts[i] as usize);
-            start += List::ALL[i].words() * capacities[i] as usize;
-            area
-        });
         Manifest {
-            block: &blob[..size as usize],
-            major: versions as u16,
-            minor: (versions >> 16) as u16,
+            block: &blob[..answer.size],
+            version: answer.version,
             words,
             capacities,
-            areas,
+            counts: answer.counts,
         }
     }
 
@@ -92,45 +51,55 @@ impl<'a> Manifest<'a> {
 
     /// The major and the minor version.
     pub fn version(&self) -> (u16, u16) {
-        (self.major, self.minor)
+        self.version
     }
 
+    /// The providers, in the block's order. All other lists run provider by provider.
     pub fn providers(&self) -> Entries<'_, Provider> {
         self.list()
     }
 
+    /// The descriptors of the providers' elements.
     pub fn descriptors(&self) -> Entries<'_, Descriptor> {
         self.list()
     }
 
+    /// The unknown2 words.
     pub fn unknown2(&self) -> Entries<'_, u32> {
         self.list()
     }
 
+    /// The tables: of each provider at most one of a kind, by their kinds.
     pub fn tables(&self) -> Entries<'_, Table<'_>> {
         self.list()
     }
 
+    /// The channels, keywords, levels, opcodes and tasks.
     pub fn definitions(&self) -> Entries<'_, Definition<'_>> {
         self.list()
     }
 
+    /// The events.
     pub fn events(&self) -> Entries<'_, Event> {
         self.list()
     }
 
+    /// The maps.
     pub fn maps(&self) -> Entries<'_, Map<'_>> {
         self.list()
     }
 
+    /// The entries of the maps.
     pub fn map_entries(&self) -> Entries<'_, MapEntry> {
         self.list()
     }
 
+    /// The templates.
     pub fn templates(&self) -> Entries<'_, Template<'_>> {
         self.list()
     }
 
+    /// The elements that are no tables of a known kind.
     pub fn unknown_elements(&self) -> Entries<'_, UnknownElement<'_>> {
         self.list()
     }
@@ -149,18 +118,19 @@ impl<'a> Manifest<'a> {
         let [first, count] = [entries.start, entries.end.saturating_sub(entries.start)]
             .map(|number| u32::try_from(number).unwrap_or(u32::MAX));
         let mut answer = [0; raw::TEMPLATE_NUMBERS];
-        let counts = self.counts();
-        match raw::ducat_template_at(
+        let code = raw::ducat_template_at(
             &self.words,
-            &self.capacities,
-            &counts,
+            self.capacities.in_order(),
+            self.counts.in_order(),
             first,
             count,
             offset,
             &mut answer,
-        ) {
-            0 => Ok((answer[4] == 1).then_some(answer[5] as usize)),
-            code => Err(Refusal::from_lookup(code)),
+        );
+        let [_, place, first, second, found, number] = answer;
+        match code {
+            0 => Ok((found == 1).then_some(number as usize)),
+            _ => Err(Refusal::new(code, [0, place, first, second])),
         }
     }
 
@@ -172,45 +142,59 @@ impl<'a> Manifest<'a> {
     pub fn templates_for(&self, key: &Key) -> Result<Vec<Guid>, Refusal> {
         // There are hardly ever more than a few, and never more than there are templates.
         let most = self.templates().len();
-        self.guids_for(key, most.min(8))
-            .or_else(|| self.guids_for(key, most))
-            .expect("no more GUIDs than templates")
-    }
-
-    /// The same, if there is room for so many.
-    fn guids_for(&self, key: &Key, room: usize) -> Option<Result<Vec<Guid>, Refusal>> {
-        let mut guids = vec![0; raw::GUID_WORDS * room];
-        let mut answer = [0; raw::GUIDS_NUMBERS];
-        match raw::ducat_templates_for(
-            &self.words,
-            &self.capacities,
-            &self.counts(),
-            &key.words(),
-            &mut guids,
-            &mut answer,
-        ) {
-            0 => {
-                let (guids, _) = guids.as_chunks();
-                let given = &guids[..answer[4] as usize];
-                Some(Ok(given.iter().copied().map(Guid::from_words).collect()))
-            }
-            9 => None,
-            code => Some(Err(Refusal::from_lookup(code))),
+        match self.guids_for(key, most.min(8)) {
+            Err(refusal) if refusal.code() == 9 => self.guids_for(key, most),
+            answer => answer,
         }
     }
 
-    /// How many entries each list has.
-    fn counts(&self) -> [u32; 10] {
-        self.areas.map(|(_, entries)| entries as u32)
+    /// The same, with room for so many; code 9 if there are more.
+    fn guids_for(&self, key: &Key, room: usize) -> Result<Vec<Guid>, Refusal> {
+        let mut guids = vec![0; raw::GUID_WORDS * room];
+        let mut answer = [0; raw::GUIDS_NUMBERS];
+        let code = raw::ducat_templates_for(
+            &self.words,
+            self.capacities.in_order(),
+            self.counts.in_order(),
+            &key.words(),
+            &mut guids,
+            &mut answer,
+        );
+        let [_, place, first, second, given] = answer;
+        match code {
+            0 => {
+                let (guids, _) = guids.as_chunks();
+                let given = &guids[..given as usize];
+                Ok(given.iter().copied().map(Guid::from_words).collect())
+            }
+            _ => Err(Refusal::new(code, [0, place, first, second])),
+        }
     }
 
     /// The words of a list, as they stand.
     pub fn words(&self, list: List) -> &[u32] {
-        let (start, entries) = self.areas[list as usize - 1];
-        &self.words[start..][..list.words() * entries]
+        let entries = self.counts.of(list) as usize;
+        &self.words[self.capacities.start(list)..][..list.words() * entries]
     }
 
     fn list<'m, T: Entry<'m>>(&'m self) -> Entries<'m, T> {
         Entries::new(self.words(T::LIST), self.block)
+    }
+}
+
+#[cfg(test)]
+mod tests {
+    use crate::{needs, read};
+
+    #[test]
+    fn as_many_words_are_allocated_as_are_needed() {
+        let t = include_bytes!("../../../samples/t.bin");
+        // A provider, a descriptor, a table and a template.
+        assert_eq!(read(t).unwrap().words.len(), 9 + 3 + 9 + 12);
+        let drive = include_bytes!("../../../samples/drive.crim");
+        let manifest = read(drive).unwrap();
+        assert_eq!(needs(drive), Ok(manifest.counts));
+        assert_eq!(manifest.capacities, manifest.counts);
+        assert_eq!(Some(manifest.words.len()), manifest.counts.words());
     }
 }

@@ -4,7 +4,10 @@ use std::fmt::{self, Write};
 
 /// A GUID: its 16 bytes as they stand in the block.
 #[derive(Clone, Copy, Debug, PartialEq, Eq, Hash)]
-pub struct Guid(pub [u8; 16]);
+pub struct Guid(
+    /// The bytes.
+    pub [u8; 16],
+);
 
 impl Guid {
     pub(crate) fn from_words(words: [u32; 4]) -> Guid {
@@ -38,7 +41,10 @@ impl fmt::Display for Guid {
 
 /// Four bytes that say what stands behind them. Shown, bytes that are no letters are escaped.
 #[derive(Clone, Copy, Debug, PartialEq, Eq, Hash)]
-pub struct Signature(pub [u8; 4]);
+pub struct Signature(
+    /// The bytes.
+    pub [u8; 4],
+);
 
 impl Signature {
     pub(crate) fn from_word(word: u32) -> Signature {
@@ -54,8 +60,11 @@ impl fmt::Display for Signature {
 
 /// A part of the block: where it starts, and its bytes.
 #[derive(Clone, Copy, PartialEq, Eq, Hash)]
+#[non_exhaustive]
 pub struct Part<'a> {
+    /// Its place.
     pub start: u32,
+    /// Its bytes.
     pub bytes: &'a [u8],
 }
 
@@ -76,17 +85,23 @@ impl fmt::Debug for Part<'_> {
 
 /// A name's text, in the block: 16-bit units. Shown, it is text.
 #[derive(Clone, Copy, PartialEq, Eq, Hash)]
-pub struct Name<'a>(pub Part<'a>);
+#[non_exhaustive]
+pub struct Name<'a> {
+    /// Where the units stand.
+    pub part: Part<'a>,
+}
 
 impl<'a> Name<'a> {
     /// The name of an entry; offset 0 says that there is none.
     pub(crate) fn of(block: &'a [u8], offset: u32, start: u32, units: u32) -> Option<Name<'a>> {
-        (offset != 0).then(|| Name(Part::of(block, start, 2 * units)))
+        (offset != 0).then(|| Name {
+            part: Part::of(block, start, 2 * units),
+        })
     }
 
     /// The units, without the zero unit that may end them.
     pub fn units(&self) -> impl Iterator<Item = u16> + use<'a> {
-        let pairs = self.0.bytes.chunks_exact(2);
+        let pairs = self.part.bytes.chunks_exact(2);
         pairs.map(|pair| u16::from_le_bytes([pair[0], pair[1]]))
     }
 

@@ -1,8 +1,11 @@
 //! The library's own functions over slices, with nothing added: for those who lend the words
 //! themselves and read them as they stand.
 
-/// How many numbers an answer has: code, field, place, first, second, ten counts.
-pub const NUMBERS: usize = 15;
+use crate::list::LISTS;
+
+/// How many numbers an answer of `ducat_read` and of `ducat_needs` has: code, field, place, first,
+/// second, and a count for each list.
+pub const NUMBERS: usize = 5 + LISTS;
 
 /// The same of `ducat_template_at`: code, place, first, second, whether a template is found (0 or
 /// 1), its number.
@@ -28,6 +31,13 @@ mod c {
             words_len: usize,
             capacities: *const u32,
             capacities_len: usize,
+            answer: *mut u64,
+            answer_len: usize,
+        ) -> u32;
+
+        pub fn ducat_needs(
+            bytes: *const u8,
+            bytes_len: usize,
             answer: *mut u64,
             answer_len: usize,
         ) -> u32;
@@ -63,8 +73,8 @@ mod c {
     }
 }
 
-/// Reads a block into the lent words; gives the code. Ten capacities and 15 numbers are expected:
-/// any other length of either is code 8.
+/// Reads a block into the lent words; gives the code. A capacity for each list and [`NUMBERS`]
+/// numbers are expected: any other length of either is code 8, but 7 comes first.
 pub fn ducat_read(blob: &[u8], words: &mut [u32], capacities: &[u32], answer: &mut [u64]) -> u32 {
     // SAFETY: each pointer and length are those of a slice, and slices that may be written to
     // overlap with no other. The function is total: it asks for nothing else.
@@ -82,9 +92,17 @@ pub fn ducat_read(blob: &[u8], words: &mut [u32], capacities: &[u32], answer: &m
     }
 }
 
+/// Tells what each list of a block needs, as the counts of the answer; gives the code. A number
+/// stops rising at 65,537. [`NUMBERS`] numbers are expected: any other length is code 8, but 7
+/// comes first.
+pub fn ducat_needs(blob: &[u8], answer: &mut [u64]) -> u32 {
+    // SAFETY: as above.
+    unsafe { c::ducat_needs(blob.as_ptr(), blob.len(), answer.as_mut_ptr(), answer.len()) }
+}
+
 /// Finds the lowest template at an offset among the entries of list 9 from `first` on, `count` of
-/// them; gives the code. Ten capacities, ten counts and 6 numbers are expected: any other length
-/// is code 8.
+/// them; gives the code. A capacity and a count for each list and [`TEMPLATE_NUMBERS`] numbers are
+/// expected: any other length is code 8.
 pub fn ducat_template_at(
     words: &[u32],
     capacities: &[u32],
@@ -113,8 +131,9 @@ pub fn ducat_template_at(
 }
 
 /// Writes the GUIDs of the templates of the events with a key, each once, to the lent list; gives
-/// the code. Ten capacities, ten counts, 12 words of the key and 5 numbers are expected: any other
-/// length is code 8. About 70 KB of stack are used.
+/// the code. A capacity and a count for each list, [`KEY_WORDS`] words of the key and
+/// [`GUIDS_NUMBERS`] numbers are expected: any other length is code 8. About 70 KB of stack are
+/// used.
 pub fn ducat_templates_for(
     words: &[u32],
     capacities: &[u32],

@@ -2,56 +2,109 @@
 
 use std::fmt;
 
-use crate::capacities::{Capacities, List};
+use crate::capacities::Capacities;
 use crate::fields::Field;
+use crate::list::List;
 use crate::parts::Signature;
-use crate::raw;
 
 /// The most bytes that are read.
 const LONGEST: u32 = 16_777_216;
 
-/// Why a block isn't read, or nothing is looked up in it. Places and offsets are bytes from the block's start; only the offset
-/// of `TEMP.template_items_offset (relative)` is counted from its template's start.
+/// Why a block isn't read, or nothing is looked up in it. Places and offsets are bytes from the
+/// block's start; only the offset of `TEMP.template_items_offset (relative)` is counted from its
+/// template's start.
 #[derive(Clone, Copy, Debug, PartialEq, Eq)]
+#[non_exhaustive]
 pub enum Refusal {
     /// Code 1: from a place on, so many bytes are needed and fewer are there.
+    #[non_exhaustive]
     CutShort {
+        /// What is cut short.
         field: Field,
+        /// Where it starts.
         place: u64,
+        /// How many bytes are needed.
         need: u64,
+        /// How many are there.
         have: u64,
     },
     /// Code 2: a structure starts with another signature.
+    #[non_exhaustive]
     WrongSignature {
+        /// The structure's place.
         place: u64,
+        /// What it has to start with.
         expected: Signature,
+        /// What it starts with.
         found: Signature,
     },
     /// Code 3: the size of the structure at a place.
-    BadSize { field: Field, place: u64, size: u64 },
-    /// Code 4: the count at a place.
-    BadCount {
+    #[non_exhaustive]
+    BadSize {
+        /// What the size is of.
         field: Field,
+        /// The structure's place.
         place: u64,
+        /// The size.
+        size: u64,
+    },
+    /// Code 4: the count at a place.
+    #[non_exhaustive]
+    BadCount {
+        /// What is counted.
+        field: Field,
+        /// The count's place.
+        place: u64,
+        /// The count.
         count: u64,
     },
     /// Code 5: an offset, and the length that it was held against.
+    #[non_exhaustive]
     BadOffset {
+        /// What the offset is of.
         field: Field,
+        /// The offset.
         offset: u64,
+        /// The length that it was held against.
         length: u64,
     },
     /// Code 6: the name at a place.
-    NotUtf16 { field: Field, place: u64 },
+    #[non_exhaustive]
+    NotUtf16 {
+        /// What has the name.
+        field: Field,
+        /// The name's place.
+        place: u64,
+    },
     /// Code 7: more bytes than are read.
     TooLong,
     /// Code 8: a capacity over the limit, or fewer words than the capacities ask for.
     BadLending,
     /// Code 9: the block is right, but has more entries for a list than there is room. It is the
     /// lowest-numbered such list.
-    ListTooSmall { list: List, capacity: u64 },
+    #[non_exhaustive]
+    ListTooSmall {
+        /// The list.
+        list: List,
+        /// How many entries it has room for.
+        capacity: u64,
+    },
     /// Code 10: a lookup over lists that don't fit together, or in a range past its list.
     ListsApart,
+    /// An answer of the library that there is no case for here.
+    #[non_exhaustive]
+    Other {
+        /// The answer's code.
+        code: u32,
+        /// Its field, 0 if it has none.
+        field: Field,
+        /// Its place.
+        place: u64,
+        /// Its first number.
+        first: u64,
+        /// Its second number.
+        second: u64,
+    },
 }
 
 impl Refusal {
@@ -68,13 +121,20 @@ impl Refusal {
             Refusal::BadLending => 8,
             Refusal::ListTooSmall { .. } => 9,
             Refusal::ListsApart => 10,
+            Refusal::Other { code, .. } => *code,
         }
     }
 
-    /// What an answer with a code that isn't 0 says.
-    pub(crate) fn from_answer(answer: &[u64; raw::NUMBERS]) -> Refusal {
-        let [code, field, place, first, second, ..] = *answer;
+    /// What an answer with a code that isn't 0 says by its field, place and two numbers.
+    pub(crate) fn new(code: u32, [field, place, first, second]: [u64; 4]) -> Refusal {
         let field = Field(field as u32);
+        let other = Refusal::Other {
+            code,
+            field,
+            place,
+            first,
+            second,
+        };
         match code {
             1 => Refusal::CutShort {
                 field,
@@ -105,20 +165,12 @@ impl Refusal {
             6 => Refusal::NotUtf16 { field, place },
             7 => Refusal::TooLong,
             8 => Refusal::BadLending,
-            9 => Refusal::ListTooSmall {
-                list: List::ALL[first as usize - 1],
+            9 => List::numbered(first).map_or(other, |list| Refusal::ListTooSmall {
+                list,
                 capacity: second,
-            },
-            _ => unreachable!("the library has no code {code} for a reading"),
-        }
-    }
-
-    /// What a lookup's code that is neither 0 nor 9 says.
-    pub(crate) fn from_lookup(code: u32) -> Refusal {
-        match code {
-            8 => Refusal::BadLending,
+            }),
             10 => Refusal::ListsApart,
-            _ => unreachable!("the library has no code {code} for a lookup"),
+            _ => other,
         }
     }
 }
@@ -171,14 +223,58 @@ impl fmt::Display for Refusal {
             Refusal::ListTooSmall { list, capacity } => write!(
                 f,
                 "list {} ({list}): there are more entries than its capacity of {capacity}",
-                *list as u32
+                list.number()
             ),
             Refusal::ListsApart => write!(
                 f,
                 "the lists don't fit together, or the range is past its list"
+            ),
+            Refusal::Other {
+                code,
+                field,
+                place,
+                first,
+                second,
+            } => write!(
+                f,
+                "{field} at {place}: refused with code {code}, {first} and {second}"
             ),
         }
     }
 }
 
 impl std::error::Error for Refusal {}
+
+#[cfg(test)]
+mod tests {
+    use super::*;
+
+    #[test]
+    fn what_has_no_case_here() {
+        // A code, and the number of a list.
+        for (code, first) in [(14, 7), (u32::MAX, 7), (9, 11), (9, 0), (9, u64::MAX)] {
+            let refusal = Refusal::new(code, [82, 76, first, 8]);
+            let other = Refusal::Other {
+                code,
+                field: Field(82),
+                place: 76,
+                first,
+                second: 8,
+            };
+            assert_eq!((refusal, refusal.code()), (other, code));
+            assert_eq!(
+                refusal.to_string(),
+                format!("TEMP.size at 76: refused with code {code}, {first} and 8")
+            );
+        }
+    }
+
+    #[test]
+    fn every_other_code_has_one() {
+        for code in 1..=10 {
+            let refusal = Refusal::new(code, [82, 76, 9, 8]);
+            assert_eq!(refusal.code(), code);
+            assert!(!matches!(refusal, Refusal::Other { .. }), "{refusal:?}");
+        }
+    }
+}

@@ -2,33 +2,38 @@
 
 mod blobs;
 
-use blobs::{rich, t, with, z};
+use blobs::{rich, rich_needs, t, t_needs, with, z};
 use ducatfeather::{
     Capacities, Definition, Descriptor, Event, Guid, Kind, List, Manifest, MapEntry, MapKind,
-    Provider, Signature, read, read_into,
+    Signature, read, read_into,
 };
 
-fn counts(manifest: &Manifest) -> [usize; 10] {
-    [
-        manifest.providers().len(),
-        manifest.descriptors().len(),
-        manifest.unknown2().len(),
-        manifest.tables().len(),
-        manifest.definitions().len(),
-        manifest.events().len(),
-        manifest.maps().len(),
-        manifest.map_entries().len(),
-        manifest.templates().len(),
-        manifest.unknown_elements().len(),
-    ]
+fn counts(manifest: &Manifest) -> Capacities {
+    let lengths = [
+        (List::Providers, manifest.providers().len()),
+        (List::Descriptors, manifest.descriptors().len()),
+        (List::Unknown2, manifest.unknown2().len()),
+        (List::Tables, manifest.tables().len()),
+        (List::Definitions, manifest.definitions().len()),
+        (List::Events, manifest.events().len()),
+        (List::Maps, manifest.maps().len()),
+        (List::MapEntries, manifest.map_entries().len()),
+        (List::Templates, manifest.templates().len()),
+        (List::UnknownElements, manifest.unknown_elements().len()),
+    ];
+    // A list that is forgotten above has a count that no block has.
+    let none = Capacities::each(u32::MAX);
+    lengths.iter().fold(none, |counts, &(list, length)| {
+        counts.with(list, length as u32)
+    })
 }
 
 #[test]
 fn a_block_without_providers() {
     let stray = [z(), vec![1, 2, 3, 4, 5]].concat();
     for blob in [z(), stray] {
-        let manifest = read(&blob, &Capacities::each(0)).unwrap();
-        assert_eq!(counts(&manifest), [0; 10]);
+        let manifest = read(&blob).unwrap();
+        assert_eq!(counts(&manifest), Capacities::each(0));
         assert_eq!(manifest.block(), z());
         assert_eq!(manifest.version(), (0, 0));
         assert!(manifest.events().next().is_none());
@@ -38,8 +43,8 @@ fn a_block_without_providers() {
 #[test]
 fn a_block_with_one_template() {
     let blob = t();
-    let manifest = read(&blob, &Capacities::each(1)).unwrap();
-    assert_eq!(counts(&manifest), [1, 1, 0, 1, 0, 0, 0, 0, 1, 0]);
+    let manifest = read(&blob).unwrap();
+    assert_eq!(counts(&manifest), t_needs());
     let template = manifest.templates().next().unwrap();
     assert_eq!((template.offset, template.size), (76, 40));
     assert_eq!(
@@ -61,7 +66,7 @@ fn only_the_needed_entries_are_written() {
     let mut expected = words.clone();
     let manifest = read_into(&blob, &capacities, &mut words).unwrap();
     let mut start = 0;
-    for list in List::ALL {
+    for list in List::all() {
         let entries = manifest.words(list);
         expected[start..start + entries.len()].copy_from_slice(entries);
         start += 3 * list.words();
@@ -73,22 +78,16 @@ fn only_the_needed_entries_are_written() {
 #[test]
 fn every_list() {
     let blob = rich();
-    let manifest = read(&blob, &Capacities::MOST).unwrap();
-    assert_eq!(counts(&manifest), [1, 6, 2, 5, 3, 1, 2, 2, 1, 1]);
+    let manifest = read(&blob).unwrap();
+    assert_eq!(counts(&manifest), rich_needs());
     assert_eq!(manifest.version(), (1, 2));
 
     let provider = manifest.providers().next().unwrap();
-    assert_eq!(
-        provider,
-        Provider {
-            guid: Guid(std::array::from_fn(|i| i as u8 + 1)),
-            offset: 36,
-            size: 68,
-            message: None,
-            descriptor_count: 6,
-            unknown2_count: 2,
-        }
-    );
+    assert_eq!(provider.guid, Guid(std::array::from_fn(|i| i as u8 + 1)));
+    assert_eq!((provider.offset, provider.size), (36, 68));
+    assert_eq!(provider.message, None);
+    assert_eq!(provider.descriptor_count, 6);
+    assert_eq!(provider.unknown2_count, 2);
     let guid = "04030201-0605-0807-090A-0B0C0D0E0F10";
     assert_eq!(provider.guid.to_string(), guid);
 
@@ -108,26 +107,19 @@ fn every_list() {
     let events = manifest.tables().nth(1).unwrap();
     assert_eq!((events.extra, events.trailing.bytes), (77, &[1, 2, 3][..]));
 
+    let event: Event = manifest.events().next().unwrap();
+    assert_eq!((event.identifier, event.version), (1, 2));
+    assert_eq!((event.channel, event.level), (3, 4));
+    assert_eq!((event.opcode, event.task), (5, 7));
+    assert_eq!(event.keywords, 9 << 32 | 8);
+    assert_eq!(event.message, u32::MAX);
     assert_eq!(
-        manifest.events().collect::<Vec<_>>(),
-        [Event {
-            identifier: 1,
-            version: 2,
-            channel: 3,
-            level: 4,
-            opcode: 5,
-            task: 7,
-            keywords: 9 << 32 | 8,
-            message: u32::MAX,
-            template_offset: None,
-            opcode_offset: Some(11),
-            level_offset: None,
-            task_offset: Some(13),
-            unknown_count: 14,
-            unknown_offset: 15,
-            flags: 16,
-        }]
+        (event.template_offset, event.opcode_offset),
+        (None, Some(11))
     );
+    assert_eq!((event.level_offset, event.task_offset), (None, Some(13)));
+    assert_eq!((event.unknown_count, event.unknown_offset), (14, 15));
+    assert_eq!(event.flags, 16);
 
     let template = manifest.templates().next().unwrap();
     assert_eq!(template.event_type, 3);
@@ -142,13 +134,13 @@ fn every_list() {
 #[test]
 fn names_are_text() {
     let blob = rich();
-    let manifest = read(&blob, &Capacities::MOST).unwrap();
+    let manifest = read(&blob).unwrap();
     let definitions: Vec<Definition> = manifest.definitions().collect();
     let name = definitions[0].name.unwrap();
     assert_eq!(name, "Größe 𝄞");
     assert_eq!(name.to_string(), "Größe 𝄞");
     assert_eq!(name.units().count(), 8);
-    assert_eq!(definitions[0].name_offset + 4, name.0.start);
+    assert_eq!(definitions[0].name_offset + 4, name.part.start);
     assert_eq!(
         (definitions[0].message, definitions[0].unknown),
         (Some(1000), 5)
@@ -158,14 +150,14 @@ fn names_are_text() {
 
     // A name without units is a name all the same.
     let empty = with(&blob, definitions[0].name_offset as usize, 4);
-    let manifest = read(&empty, &Capacities::MOST).unwrap();
+    let manifest = read(&empty).unwrap();
     assert_eq!(manifest.definitions().next().unwrap().name.unwrap(), "");
 }
 
 #[test]
 fn maps_and_their_entries() {
     let blob = rich();
-    let manifest = read(&blob, &Capacities::MOST).unwrap();
+    let manifest = read(&blob).unwrap();
     let value = manifest.maps().next().unwrap();
     assert_eq!(
         (value.kind, value.size, value.data.bytes),
@@ -190,7 +182,7 @@ fn maps_and_their_entries() {
 #[test]
 fn iterators_know_where_they_end() {
     let blob = rich();
-    let manifest = read(&blob, &Capacities::MOST).unwrap();
+    let manifest = read(&blob).unwrap();
     let mut descriptors = manifest.descriptors();
     let second: Descriptor = descriptors.get(1).unwrap();
     assert_eq!(second.signature, Signature(*b"EVNT"));

@@ -3,7 +3,7 @@
 
 use std::ops::Range;
 
-use ducatfeather::{Capacities, Event, Guid, Key, Kind, List, Manifest, Refusal, raw, read};
+use ducatfeather::{Capacities, Event, Guid, Key, Kind, List, Refusal, raw, read, read_into};
 
 /// A provider of a block: its GUID, its events, and the GUIDs of its templates, told by one byte.
 /// An event is an identifier and the number of its template, if it has one.
@@ -69,19 +69,11 @@ fn key(guid: u8, event_id: u16) -> Key {
 /// The GUIDs for a key, by their byte, whatever room the lists were read with.
 #[track_caller]
 fn given(blob: &[u8], key: &Key) -> Vec<u8> {
-    let roomy = read(blob, &Capacities::MOST).unwrap();
-    let guids = roomy.templates_for(key).unwrap();
-    let mut exact = Capacities::each(0);
-    [exact.providers, exact.descriptors] = lengths(&roomy, [List::Providers, List::Descriptors]);
-    [exact.tables, exact.events] = lengths(&roomy, [List::Tables, List::Events]);
-    [exact.templates] = lengths(&roomy, [List::Templates]);
-    let exact = read(blob, &exact).unwrap();
-    assert_eq!(exact.templates_for(key).unwrap(), guids);
+    let guids = read(blob).unwrap().templates_for(key).unwrap();
+    let mut words = vec![0; Capacities::MOST.words().unwrap()];
+    let roomy = read_into(blob, &Capacities::MOST, &mut words).unwrap();
+    assert_eq!(roomy.templates_for(key).unwrap(), guids);
     guids.iter().map(|guid| guid.0[0]).collect()
-}
-
-fn lengths<const N: usize>(manifest: &Manifest, lists: [List; N]) -> [u32; N] {
-    lists.map(|list| (manifest.words(list).len() / list.words()) as u32)
 }
 
 #[test]
@@ -93,7 +85,7 @@ fn by_key() {
     assert_eq!(given(&blob, &key(9, 3)), [30]);
     assert_eq!(given(&blob, &key(9, 4)), []);
     assert_eq!(given(&blob, &key(8, 1)), []);
-    let manifest = read(&blob, &Capacities::MOST).unwrap();
+    let manifest = read(&blob).unwrap();
     let event: Event = manifest.events().next().unwrap();
     assert_eq!(event.key(Guid([9; 16])), key(9, 1));
 }
@@ -207,7 +199,7 @@ fn by_offset() {
     let first = Provider(8, &[], &[30, 31]);
     let second = Provider(9, &[(1, Some(2))], &[32, 33, 34]);
     let blob = block(&[first, second]);
-    let manifest = read(&blob, &Capacities::each(7)).unwrap();
+    let manifest = read(&blob).unwrap();
     let tables: Vec<Range<usize>> = manifest
         .tables()
         .filter(|table| table.kind == Kind::Ttbl)
@@ -245,7 +237,9 @@ fn by_offset() {
 fn ranges_past_the_list() {
     let blob = block(&[Provider(8, &[], &[30, 31])]);
     // There is room for more templates than there are.
-    let manifest = read(&blob, &Capacities::each(7)).unwrap();
+    let capacities = Capacities::each(7);
+    let mut words = vec![0; capacities.words().unwrap()];
+    let manifest = read_into(&blob, &capacities, &mut words).unwrap();
     let offset = manifest.templates().next().unwrap().offset;
     assert_eq!(manifest.template_at(2..2, offset), Ok(None));
     let backwards = Range { start: 2, end: 0 };
@@ -268,33 +262,33 @@ const NOT_TOUCHED: u32 = 0x5a5a_5a5a;
 #[derive(Clone)]
 struct Lent {
     words: Vec<u32>,
-    capacities: [u32; 10],
-    counts: [u32; 10],
+    capacities: Capacities,
+    counts: Capacities,
 }
 
 impl Lent {
     /// No entries, room for so many of each list, and a word more.
     fn new(room: u32) -> Lent {
-        let words = Capacities::each(room).words().unwrap() + 1;
+        let capacities = Capacities::each(room);
         Lent {
-            words: vec![NOT_TOUCHED; words],
-            capacities: [room; 10],
-            counts: [0; 10],
+            words: vec![NOT_TOUCHED; capacities.words().unwrap() + 1],
+            capacities,
+            counts: Capacities::each(0),
         }
     }
 
     /// A word of an entry.
     fn word(&mut self, list: List, number: u32, word: usize) -> &mut u32 {
-        let before = &List::ALL[..list as usize - 1];
-        let areas = before.iter().zip(self.capacities);
-        let start: usize = areas.map(|(l, room)| l.words() * room as usize).sum();
+        let before = List::all().take_while(|&other| other != list);
+        let areas = before.map(|other| other.words() * self.capacities.of(other) as usize);
+        let start: usize = areas.sum();
         &mut self.words[start + list.words() * number as usize + word]
     }
 
     /// One entry more: these words, at their places, and zeros.
     fn put(&mut self, list: List, words: &[(usize, u32)]) -> &mut Lent {
-        let number = self.counts[list as usize - 1];
-        self.counts[list as usize - 1] += 1;
+        let number = self.counts.of(list);
+        self.counts = self.counts.with(list, number + 1);
         for place in 0..list.words() {
             *self.word(list, number, place) = 0;
         }
@@ -328,8 +322,8 @@ impl Lent {
         let mut answer = [99; 6];
         let code = raw::ducat_template_at(
             &self.words,
-            &self.capacities,
-            &self.counts,
+            self.capacities.in_order(),
+            self.counts.in_order(),
             first,
             count,
             offset,
@@ -347,8 +341,8 @@ impl Lent {
         let mut guids = vec![NOT_TOUCHED; lent];
         let code = raw::ducat_templates_for(
             &self.words,
-            &self.capacities,
-            &self.counts,
+            self.capacities.in_order(),
+            self.counts.in_order(),
             &KEY,
             &mut guids,
             &mut answer,
@@ -427,9 +421,9 @@ fn faults_of_a_range() {
 
 #[test]
 fn counts_over_their_capacities() {
-    for list in 0..10 {
+    for list in List::all() {
         let mut lent = lists();
-        lent.counts[list] = 7;
+        lent.counts = lent.counts.with(list, 7);
         assert_eq!(lent.at(0, 1, 100), [10, 0, 0, 0, 0, 0]);
         assert_eq!(lent.guids(8), refused(10));
     }
@@ -438,7 +432,7 @@ fn counts_over_their_capacities() {
     none.words.clear();
     assert_eq!(none.at(0, 0, 0), [0; 6]);
     assert_eq!(none.guids(0), refused(0));
-    none.counts[2] = 1;
+    none.counts = none.counts.with(List::Unknown2, 1);
     assert_eq!(none.at(0, 0, 0), [10, 0, 0, 0, 0, 0]);
     assert_eq!(none.guids(0), refused(10));
 }
@@ -451,14 +445,14 @@ fn lendings_that_are_refused() {
     assert_eq!(few.guids(8).1, [70, 71]);
     few.words.pop();
     // 8 comes before 10.
-    for wrong in [few.counts, [7; 10]] {
+    for wrong in [few.counts, Capacities::each(7)] {
         few.counts = wrong;
         assert_eq!(few.at(0, 1, 100), [8, 0, 0, 0, 0, 0]);
         assert_eq!(few.guids(8), refused(8));
     }
-    for list in 0..10 {
+    for list in List::all() {
         let mut much = lists();
-        much.capacities[list] = 65_537;
+        much.capacities = much.capacities.with(list, 65_537);
         much.words.resize(16 * 65_537 + 1_000, 0);
         assert_eq!(much.at(0, 1, 100), [8, 0, 0, 0, 0, 0]);
         assert_eq!(much.guids(8), refused(8));
@@ -471,13 +465,14 @@ fn lendings_that_are_refused() {
 #[test]
 fn lengths_of_the_calls() {
     let lent = lists();
-    let ten = [6; 11];
+    let right = List::all().len();
+    let others = [0, right - 1, right + 1];
     let at = |capacities, counts, numbers: usize| {
         let mut answer = [99; 7];
         let code = raw::ducat_template_at(
             &lent.words,
-            &ten[..capacities],
-            &counts_of(&lent, counts),
+            &cut(&lent.capacities, capacities),
+            &cut(&lent.counts, counts),
             0,
             1,
             100,
@@ -485,13 +480,13 @@ fn lengths_of_the_calls() {
         );
         (code, answer)
     };
-    assert_eq!(at(10, 10, 6), (0, [0, 0, 0, 0, 1, 0, 99]));
-    for other in [0, 9, 11] {
-        assert_eq!(at(other, 10, 6), (8, [8, 0, 0, 0, 0, 0, 99]));
-        assert_eq!(at(10, other, 6), (8, [8, 0, 0, 0, 0, 0, 99]));
+    assert_eq!(at(right, right, 6), (0, [0, 0, 0, 0, 1, 0, 99]));
+    for other in others {
+        assert_eq!(at(other, right, 6), (8, [8, 0, 0, 0, 0, 0, 99]));
+        assert_eq!(at(right, other, 6), (8, [8, 0, 0, 0, 0, 0, 99]));
     }
     for other in [0, 5, 7] {
-        assert_eq!(at(10, 10, other), (8, [99; 7]));
+        assert_eq!(at(right, right, other), (8, [99; 7]));
     }
 
     let long = [KEY.as_slice(), &[0]].concat();
@@ -500,8 +495,8 @@ fn lengths_of_the_calls() {
         let mut guids = [NOT_TOUCHED; 8];
         let code = raw::ducat_templates_for(
             &lent.words,
-            &ten[..capacities],
-            &counts_of(&lent, counts),
+            &cut(&lent.capacities, capacities),
+            &cut(&lent.counts, counts),
             &long[..key],
             &mut guids,
             &mut answer[..numbers],
@@ -509,24 +504,24 @@ fn lengths_of_the_calls() {
         assert!(code == 0 || guids == [NOT_TOUCHED; 8]);
         (code, answer)
     };
-    assert_eq!(by_key(10, 10, 12, 5), (0, [0, 0, 0, 0, 2, 99]));
-    for other in [0, 9, 11] {
-        assert_eq!(by_key(other, 10, 12, 5), (8, [8, 0, 0, 0, 0, 99]));
-        assert_eq!(by_key(10, other, 12, 5), (8, [8, 0, 0, 0, 0, 99]));
+    assert_eq!(by_key(right, right, 12, 5), (0, [0, 0, 0, 0, 2, 99]));
+    for other in others {
+        assert_eq!(by_key(other, right, 12, 5), (8, [8, 0, 0, 0, 0, 99]));
+        assert_eq!(by_key(right, other, 12, 5), (8, [8, 0, 0, 0, 0, 99]));
     }
     for other in [0, 11, 13] {
-        assert_eq!(by_key(10, 10, other, 5), (8, [8, 0, 0, 0, 0, 99]));
+        assert_eq!(by_key(right, right, other, 5), (8, [8, 0, 0, 0, 0, 99]));
     }
     for other in [0, 4, 6] {
-        assert_eq!(by_key(10, 10, 12, other), (8, [99; 6]));
+        assert_eq!(by_key(right, right, 12, other), (8, [99; 6]));
     }
 }
 
-/// So many of the counts, and zeros where there are no more.
-fn counts_of(lent: &Lent, length: usize) -> Vec<u32> {
-    let mut counts = lent.counts.to_vec();
-    counts.resize(length, 0);
-    counts
+/// So many of the numbers, and zeros where there are no more.
+fn cut(numbers: &Capacities, length: usize) -> Vec<u32> {
+    let mut numbers = numbers.in_order().to_vec();
+    numbers.resize(length, 0);
+    numbers
 }
 
 #[test]
@@ -556,7 +551,7 @@ fn tables_that_do_not_fit() {
     for (kind, list) in kinds {
         // The last table, of a provider that isn't asked for, fits its own list exactly.
         let mut fitting = lists();
-        let count = fitting.counts[list as usize - 1];
+        let count = fitting.counts.of(list);
         fitting.table(0, kind, 0, count);
         fitting.table(0, kind, count, 0);
         assert_eq!(fitting.guids(8).1, [70, 71]);

@@ -2,8 +2,8 @@
 
 mod blobs;
 
-use blobs::{rich, t, with, z};
-use ducatfeather::{Capacities, Field, List, Refusal, raw, read, read_into};
+use blobs::{rich, rich_needs, t, with, z};
+use ducatfeather::{Capacities, Field, List, Refusal, raw, read_into};
 
 /// The refusal of a block; the lent words must be as they were.
 #[track_caller]
@@ -14,8 +14,13 @@ fn refused(blob: &[u8], capacities: &Capacities) -> Refusal {
     let mut words = pattern.clone();
     let refusal = read_into(blob, capacities, &mut words).unwrap_err();
     assert!(words == pattern, "a refusal touched a word");
-    assert_eq!(refusal, read(blob, capacities).unwrap_err());
     refusal
+}
+
+/// Whether a block is accepted with such room.
+fn accepted(blob: &[u8], capacities: &Capacities) -> bool {
+    let mut words = vec![0; capacities.words().unwrap()];
+    read_into(blob, capacities, &mut words).is_ok()
 }
 
 #[track_caller]
@@ -82,15 +87,18 @@ fn signatures_and_names() {
 
 #[test]
 fn the_numbers_of_a_refusal() {
-    assert_eq!(
-        refused(&with(&t(), 68, 51), &Capacities::MOST),
-        Refusal::CutShort {
-            field: Field(80),
-            place: 76,
-            need: 40,
-            have: 39
-        }
-    );
+    let refusal = refused(&with(&t(), 68, 51), &Capacities::MOST);
+    let Refusal::CutShort {
+        field,
+        place,
+        need,
+        have,
+        ..
+    } = refusal
+    else {
+        panic!("{refusal:?}");
+    };
+    assert_eq!((field, place, need, have), (Field(80), 76, 40, 39));
     assert_eq!(Field(80).text(), Some("TEMP header"));
     assert_eq!(Field(0).text(), None);
 }
@@ -99,7 +107,7 @@ fn the_numbers_of_a_refusal() {
 fn too_many_bytes() {
     let mut long = z();
     long.resize(16_777_216, 1);
-    assert!(read(&long, &Capacities::each(0)).is_ok());
+    assert!(accepted(&long, &Capacities::each(0)));
     long.push(1);
     let refusal = refused(&long, &Capacities::each(0));
     assert_eq!(refusal, Refusal::TooLong);
@@ -113,8 +121,9 @@ fn too_many_bytes() {
 
 #[test]
 fn capacities_over_the_limit() {
-    for i in 0..10 {
-        let capacities = one_other(&Capacities::each(0), i, 65_537);
+    for list in List::all() {
+        let capacities = Capacities::each(0).with(list, 65_537);
+        assert_eq!(capacities.words(), None);
         // 8 comes before whatever is wrong with the bytes.
         for blob in [z(), t(), Vec::new()] {
             let refusal = refused(&blob, &capacities);
@@ -124,7 +133,7 @@ fn capacities_over_the_limit() {
                 "a capacity is over 65536, or fewer words are lent than the capacities ask for"
             );
         }
-        assert!(read(&z(), &one_other(&capacities, i, 65_536)).is_ok());
+        assert!(accepted(&z(), &capacities.with(list, 65_536)));
     }
     assert_eq!(
         refused(&z(), &Capacities::each(u32::MAX)),
@@ -145,24 +154,33 @@ fn too_few_words() {
 
 #[test]
 fn lists_too_small() {
-    let needed = [1, 6, 2, 5, 3, 1, 2, 2, 1, 1];
-    let fitting = (0..10).fold(Capacities::each(0), |c, i| one_other(&c, i, needed[i]));
-    assert!(read(&rich(), &fitting).is_ok());
-    for i in 0..10 {
-        let short = one_other(&fitting, i, needed[i] - 1);
+    let fitting = rich_needs();
+    assert!(accepted(&rich(), &fitting));
+    let last = List::all().last().unwrap();
+    for list in List::all() {
+        let capacity = fitting.of(list) - 1;
+        let short = fitting.with(list, capacity);
         let refusal = refused(&rich(), &short);
-        let capacity = u64::from(needed[i] - 1);
-        let list = List::ALL[i];
-        assert_eq!(refusal, Refusal::ListTooSmall { list, capacity });
+        assert_eq!(refusal.code(), 9);
+        assert_eq!(
+            refusal.to_string(),
+            format!(
+                "list {} ({list}): there are more entries than its capacity of {capacity}",
+                list.number()
+            )
+        );
         // The lowest-numbered list is named.
-        let shorter = one_other(&short, 9, 0);
-        assert_eq!(refused(&rich(), &shorter), refusal);
+        assert_eq!(refused(&rich(), &short.with(last, 0)), refusal);
     }
-    let events = refused(&rich(), &one_other(&fitting, 5, 0));
+    let events = refused(&rich(), &fitting.with(List::Events, 0));
     assert_eq!(
         events.to_string(),
         "list 6 (events): there are more entries than its capacity of 0"
     );
+    let Refusal::ListTooSmall { list, capacity, .. } = events else {
+        panic!("{events:?}");
+    };
+    assert_eq!((list, capacity), (List::Events, 0));
     // 9 comes after whatever is wrong with the bytes.
     assert_eq!(refused(&with(&t(), 80, 39), &Capacities::each(0)).code(), 3);
 }
@@ -170,59 +188,36 @@ fn lists_too_small() {
 #[test]
 fn lengths_of_the_c_call() {
     let mut words = vec![7; 200];
-    let capacities = [1; 11];
-    for length in [0, 9, 11] {
-        let mut answer = [9; 15];
+    let lists = List::all().len();
+    let capacities = vec![1; lists + 1];
+    let only = |code: u64| {
+        let mut answer = [0; raw::NUMBERS];
+        answer[0] = code;
+        answer
+    };
+    for length in [0, lists - 1, lists + 1] {
+        let mut answer = [9; raw::NUMBERS];
         let code = raw::ducat_read(&t(), &mut words, &capacities[..length], &mut answer);
-        assert_eq!(code, 8);
-        assert_eq!(answer, [8, 0, 0, 0, 0, 0, 0, 0, 0, 0, 0, 0, 0, 0, 0]);
+        assert_eq!((code, answer), (8, only(8)));
     }
-    for length in [0, 1, 14, 16] {
-        let mut answer = [9; 16];
+    for length in [0, 1, raw::NUMBERS - 1, raw::NUMBERS + 1] {
+        let mut answer = [9; raw::NUMBERS + 1];
         let numbers = &mut answer[..length];
+        let code = raw::ducat_read(&t(), &mut words, &capacities[..lists], numbers);
         assert_eq!(
-            raw::ducat_read(&t(), &mut words, &capacities[..10], numbers),
-            8
-        );
-        assert_eq!(
-            answer, [9; 16],
-            "an answer of another length is not written"
+            (code, answer),
+            (8, [9; raw::NUMBERS + 1]),
+            "it is not written"
         );
     }
     // 7 comes first here too.
     let long = vec![0; 16_777_217];
-    let mut answer = [9; 15];
-    assert_eq!(
-        raw::ducat_read(&long, &mut words, &capacities, &mut answer),
-        7
-    );
-    assert_eq!(answer, [7, 0, 0, 0, 0, 0, 0, 0, 0, 0, 0, 0, 0, 0, 0]);
+    let mut answer = [9; raw::NUMBERS];
+    let code = raw::ducat_read(&long, &mut words, &capacities, &mut answer);
+    assert_eq!((code, answer), (7, only(7)));
     assert_eq!(
         raw::ducat_read(&long, &mut words, &capacities, &mut answer[..3]),
         7
     );
     assert!(words.iter().all(|&word| word == 7));
-}
-
-/// The same capacities but for one list, counted from 0.
-fn one_other(capacities: &Capacities, list: usize, value: u32) -> Capacities {
-    let mut changed = *capacities;
-    let places = [
-        &mut changed.providers,
-        &mut changed.descriptors,
-        &mut changed.unknown2,
-        &mut changed.tables,
-        &mut changed.definitions,
-        &mut changed.events,
-        &mut changed.maps,
-        &mut changed.map_entries,
-        &mut changed.templates,
-        &mut changed.unknown_elements,
-    ];
-    for (i, place) in places.into_iter().enumerate() {
-        if i == list {
-            *place = value;
-        }
-    }
-    changed
 }

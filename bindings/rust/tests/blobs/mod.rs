@@ -1,9 +1,21 @@
-//! Blocks to read.
+//! Blocks to read. No test uses all of them.
+#![allow(dead_code, unused_imports)]
 
 #[path = "../../../../oracle/generator/small.rs"]
 mod small;
 
+use ducatfeather::{Capacities, List};
+
 pub use small::{t, with, z};
+
+/// What T needs.
+pub fn t_needs() -> Capacities {
+    Capacities::each(0)
+        .with(List::Providers, 1)
+        .with(List::Descriptors, 1)
+        .with(List::Tables, 1)
+        .with(List::Templates, 1)
+}
 
 /// One provider with something in each list; in the order of the file: the name `Größe 𝄞`, a
 /// CHAN, an EVNT, a KEYW, a MAPS, a TTBL, and an element `What`.
@@ -83,6 +95,34 @@ pub fn rich() -> Vec<u8> {
         bytes = with(&bytes, descriptor + 4, 200 + i as u32);
     }
     bytes
+}
+
+/// What that one needs.
+pub fn rich_needs() -> Capacities {
+    Capacities::each(0)
+        .with(List::Providers, 1)
+        .with(List::Descriptors, 6)
+        .with(List::Unknown2, 2)
+        .with(List::Tables, 5)
+        .with(List::Definitions, 3)
+        .with(List::Events, 1)
+        .with(List::Maps, 2)
+        .with(List::MapEntries, 2)
+        .with(List::Templates, 1)
+        .with(List::UnknownElements, 1)
+}
+
+/// So many providers, which share one WEVT with nothing in it.
+pub fn providers(count: u32) -> Vec<u8> {
+    let mut b = Block(b"CRIM".to_vec());
+    let wevt = 16 + 20 * count;
+    b.words(&[wevt + 20, 0, count]);
+    for _ in 0..count {
+        b.words(&[0, 0, 0, 0, wevt]);
+    }
+    b.signature(b"WEVT");
+    b.words(&[20, u32::MAX, 0, 0]);
+    b.0
 }
 
 struct Block(Vec<u8>);

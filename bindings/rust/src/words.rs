@@ -1,0 +1,273 @@
+//! How an entry is read from its words.
+
+use std::ops::Range;
+
+use crate::entry::{
+    Definition, Descriptor, Event, Kind, Map, MapEntry, MapKind, Provider, Table, Template,
+    UnknownElement,
+};
+use crate::parts::{Guid, Name, Part, Signature};
+
+/// What can be read from the words of an entry. Other crates can't reach this trait, and so can't
+/// add to those that need it.
+pub trait FromWords<'a>: Sized {
+    /// The entry of so many words, as many as the list's entries have, read from this block.
+    fn from_words(words: &[u32], block: &'a [u8]) -> Self;
+}
+
+/// A message's number; the highest there is says that there is none.
+fn message(word: u32) -> Option<u32> {
+    (word != u32::MAX).then_some(word)
+}
+
+/// An offset in an event; 0 says that there is none.
+fn offset(word: u32) -> Option<u32> {
+    (word != 0).then_some(word)
+}
+
+fn long(low: u32, high: u32) -> u64 {
+    u64::from(low) | u64::from(high) << 32
+}
+
+/// Numbers of entries, from the first on.
+fn numbers(first: u32, count: u32) -> Range<usize> {
+    first as usize..first as usize + count as usize
+}
+
+/// The entry's words, by their number.
+fn exactly<const N: usize>(words: &[u32]) -> [u32; N] {
+    words.try_into().expect("an entry's words")
+}
+
+impl Kind {
+    fn from_word(word: u32) -> Kind {
+        match word {
+            1 => Kind::Chan,
+            2 => Kind::Evnt,
+            3 => Kind::Keyw,
+            4 => Kind::Levl,
+            5 => Kind::Maps,
+            6 => Kind::Opco,
+            7 => Kind::Task,
+            8 => Kind::Ttbl,
+            _ => unreachable!("there is no kind {word}"),
+        }
+    }
+}
+
+impl FromWords<'_> for Provider {
+    fn from_words(words: &[u32], _: &[u8]) -> Provider {
+        let [
+            a,
+            b,
+            c,
+            d,
+            offset,
+            size,
+            text,
+            descriptor_count,
+            unknown2_count,
+        ] = exactly(words);
+        Provider {
+            guid: Guid::from_words([a, b, c, d]),
+            offset,
+            size,
+            message: message(text),
+            descriptor_count,
+            unknown2_count,
+        }
+    }
+}
+
+impl FromWords<'_> for Descriptor {
+    fn from_words(words: &[u32], _: &[u8]) -> Descriptor {
+        let [offset, unknown, signature] = exactly(words);
+        Descriptor {
+            offset,
+            unknown,
+            signature: Signature::from_word(signature),
+        }
+    }
+}
+
+impl FromWords<'_> for u32 {
+    fn from_words(words: &[u32], _: &[u8]) -> u32 {
+        let [word] = exactly(words);
+        word
+    }
+}
+
+impl<'a> FromWords<'a> for Table<'a> {
+    fn from_words(words: &[u32], block: &'a [u8]) -> Table<'a> {
+        let [
+            provider,
+            kind,
+            offset,
+            size,
+            extra,
+            first,
+            count,
+            start,
+            length,
+        ] = exactly(words);
+        Table {
+            provider,
+            kind: Kind::from_word(kind),
+            offset,
+            size,
+            extra,
+            entries: numbers(first, count),
+            trailing: Part::of(block, start, length),
+        }
+    }
+}
+
+impl<'a> FromWords<'a> for Definition<'a> {
+    fn from_words(words: &[u32], block: &'a [u8]) -> Definition<'a> {
+        let [
+            kind,
+            low,
+            high,
+            text,
+            offset,
+            start,
+            units,
+            unknown,
+            mui @ ..,
+        ] = exactly::<12>(words);
+        Definition {
+            kind: Kind::from_word(kind),
+            identifier: long(low, high),
+            message: message(text),
+            name_offset: offset,
+            name: Name::of(block, offset, start, units),
+            unknown,
+            mui: Guid::from_words(mui),
+        }
+    }
+}
+
+impl FromWords<'_> for Event {
+    fn from_words(words: &[u32], _: &[u8]) -> Event {
+        let [
+            identifier,
+            version,
+            channel,
+            level,
+            opcode,
+            task,
+            low,
+            high,
+            message,
+            template_offset,
+            opcode_offset,
+            level_offset,
+            task_offset,
+            unknown_count,
+            unknown_offset,
+            flags,
+        ] = exactly(words);
+        // The narrow fields were read from one or two bytes.
+        Event {
+            identifier: identifier as u16,
+            version: version as u8,
+            channel: channel as u8,
+            level: level as u8,
+            opcode: opcode as u8,
+            task: task as u16,
+            keywords: long(low, high),
+            message,
+            template_offset: offset(template_offset),
+            opcode_offset: offset(opcode_offset),
+            level_offset: offset(level_offset),
+            task_offset: offset(task_offset),
+            unknown_count,
+            unknown_offset,
+            flags,
+        }
+    }
+}
+
+impl<'a> FromWords<'a> for Map<'a> {
+    fn from_words(words: &[u32], block: &'a [u8]) -> Map<'a> {
+        let [
+            kind,
+            signature,
+            offset,
+            size,
+            string_offset,
+            name_start,
+            name_units,
+            first,
+            count,
+            start,
+            length,
+        ] = exactly(words);
+        Map {
+            kind: match kind {
+                1 => MapKind::Vmap,
+                2 => MapKind::Bmap,
+                _ => MapKind::Other,
+            },
+            signature: Signature::from_word(signature),
+            offset,
+            size,
+            string_offset,
+            name: Name::of(block, string_offset, name_start, name_units),
+            entries: numbers(first, count),
+            data: Part::of(block, start, length),
+        }
+    }
+}
+
+impl FromWords<'_> for MapEntry {
+    fn from_words(words: &[u32], _: &[u8]) -> MapEntry {
+        let [identifier, text] = exactly(words);
+        MapEntry {
+            identifier,
+            message: message(text),
+        }
+    }
+}
+
+impl<'a> FromWords<'a> for Template<'a> {
+    fn from_words(words: &[u32], block: &'a [u8]) -> Template<'a> {
+        let [
+            offset,
+            size,
+            item_descriptor_count,
+            item_name_count,
+            items_offset,
+            event_type,
+            a,
+            b,
+            c,
+            d,
+            start,
+            length,
+        ] = exactly(words);
+        Template {
+            offset,
+            size,
+            item_descriptor_count,
+            item_name_count,
+            items_offset,
+            event_type,
+            guid: Guid::from_words([a, b, c, d]),
+            binxml: Part::of(block, start, length),
+        }
+    }
+}
+
+impl<'a> FromWords<'a> for UnknownElement<'a> {
+    fn from_words(words: &[u32], block: &'a [u8]) -> UnknownElement<'a> {
+        let [provider, signature, offset, size] = exactly(words);
+        UnknownElement {
+            provider,
+            signature: Signature::from_word(signature),
+            offset,
+            size,
+            data: Part::of(block, offset, size),
+        }
+    }
+}
