@@ -7,7 +7,7 @@ use std::ops::Range;
 use crate::list::List;
 use crate::words::FromWords;
 
-/// What a list's words are read as. The types of this crate are all that there are.
+/// What a list's words are read as. Other crates can't add to the types that have it.
 pub trait Entry<'a>: FromWords<'a> {
     /// The list that it is an entry of.
     const LIST: List;

@@ -37,8 +37,8 @@
 //! Reading and finding are done by the library that this crate is linked with; here its words are
 //! only given names and types. docs/FORMAT.md says what each of them means.
 //!
-//! Lists, fields of entries and codes of refusals may be added. So structs and enums that gain by
-//! it are made here alone, and matching them takes a `..` or a `_`.
+//! Lists, fields of entries and codes of refusals may be added. The structs and enums that gain by
+//! it can't be made elsewhere, and are matched with a `..` or a `_`.
 
 #![deny(missing_docs)]
 

@@ -4,7 +4,7 @@
 use crate::list::LISTS;
 
 /// How many numbers an answer of `ducat_read` and of `ducat_needs` has: code, field, place, first,
-/// second, and a count for each list.
+/// second, and a count for each list, so that it rises with the lists.
 pub const NUMBERS: usize = 5 + LISTS;
 
 /// The same of `ducat_template_at`: code, place, first, second, whether a template is found (0 or

@@ -2,7 +2,7 @@
 
 mod blobs;
 
-use blobs::{providers, rich, rich_needs, t, t_needs, with, z};
+use blobs::{rich, rich_needs, shared, t, t_needs, with, z};
 use ducatfeather::{Capacities, List, Refusal, needs, raw, read, read_into};
 
 /// Blocks that are accepted.
@@ -63,20 +63,42 @@ fn too_small(refusal: Refusal) -> (List, u64) {
     }
 }
 
+/// What so many providers need that share one WEVT with so many templates, as far as it is told.
+fn shared_needs(providers: u32, templates: u32) -> Capacities {
+    let each = providers.min(65_537);
+    Capacities::each(0)
+        .with(List::Providers, each)
+        .with(List::Descriptors, each)
+        .with(List::Tables, each)
+        .with(List::Templates, (providers * templates).min(65_537))
+}
+
+#[test]
+fn as_much_as_there_can_be_room_for() {
+    for (providers, templates) in [(65_536, 1), (1, 65_536), (256, 256)] {
+        let blob = shared(providers, templates);
+        assert_eq!(needs(&blob), Ok(shared_needs(providers, templates)));
+        assert_eq!(read(&blob).unwrap().templates().len(), 65_536);
+    }
+}
+
 #[test]
 fn more_than_there_can_be_room_for() {
-    let none = Capacities::each(0);
-    let most = providers(65_536);
-    assert_eq!(needs(&most), Ok(none.with(List::Providers, 65_536)));
-    assert_eq!(read(&most).unwrap().providers().len(), 65_536);
-    // From there on a number doesn't rise.
-    for count in [65_537, 65_538, 131_073] {
-        let blob = providers(count);
+    // The lowest of the lists is named.
+    for (providers, templates, list) in [
+        (65_537, 0, List::Providers),
+        (65_537, 1, List::Providers),
+        (131_073, 2, List::Providers),
+        (1, 65_537, List::Templates),
+        (257, 256, List::Templates),
+        (1_000, 2_000, List::Templates),
+    ] {
+        let blob = shared(providers, templates);
         let needs = needs(&blob).unwrap();
-        assert_eq!(needs, none.with(List::Providers, 65_537));
+        assert_eq!(needs, shared_needs(providers, templates));
+        assert_eq!(needs.of(list), 65_537);
         assert_eq!(needs.words(), None);
-        let refusal = read(&blob).unwrap_err();
-        assert_eq!(too_small(refusal), (List::Providers, 65_536));
+        assert_eq!(too_small(read(&blob).unwrap_err()), (list, 65_536));
     }
 }
 

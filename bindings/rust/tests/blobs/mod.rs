@@ -112,16 +112,21 @@ pub fn rich_needs() -> Capacities {
         .with(List::UnknownElements, 1)
 }
 
-/// So many providers, which share one WEVT with nothing in it.
-pub fn providers(count: u32) -> Vec<u8> {
+/// So many providers that share one WEVT, as T's, with so many templates.
+pub fn shared(providers: u32, templates: u32) -> Vec<u8> {
     let mut b = Block(b"CRIM".to_vec());
-    let wevt = 16 + 20 * count;
-    b.words(&[wevt + 20, 0, count]);
-    for _ in 0..count {
+    let wevt = 16 + 20 * providers;
+    b.words(&[wevt + 40 + 40 * templates, 0, providers]);
+    for _ in 0..providers {
         b.words(&[0, 0, 0, 0, wevt]);
     }
     b.signature(b"WEVT");
-    b.words(&[20, u32::MAX, 0, 0]);
+    b.words(&[0, 0, 1, 0, wevt + 28, 0]);
+    b.signature(b"TTBL");
+    b.words(&[12 + 40 * templates, templates]);
+    for _ in 0..templates {
+        b.0.extend(&t()[76..]);
+    }
     b.0
 }
 
