@@ -1,7 +1,8 @@
 //! Links the library, from the archive that `bindings/archive` builds or DUCAT_ARCHIVE names.
 //!
 //! Where it isn't built yet it is proved first, which takes minutes. Cargo shows nothing of a build
-//! script that is running, so what is being done is said on the terminal, if there is one.
+//! script that is running, so what `bindings/archive` says of it goes to the terminal, if there is
+//! one.
 
 use std::fs::OpenOptions;
 use std::io::{BufRead, BufReader, Write};
@@ -11,6 +12,7 @@ use std::process::{Command, Stdio, exit};
 fn main() {
     println!("cargo::rerun-if-env-changed=DUCAT_ARCHIVE");
     println!("cargo::rerun-if-changed=../archive");
+    println!("cargo::rerun-if-changed=../../build");
     println!("cargo::rerun-if-changed=../../crates");
     println!("cargo::rerun-if-changed=../../crates.txt");
 
@@ -39,24 +41,18 @@ fn main() {
 }
 
 /// Passes lines on as they come, to the terminal and to what cargo shows of a script that fails;
-/// whether there were any. There are none if the archive is as new as what it is built from.
+/// whether there were any. There are none if the archive was built from what is there now.
 fn pass_on(lines: impl BufRead) -> bool {
     let mut terminal = OpenOptions::new().write(true).open("/dev/tty").ok();
-    let mut say = |line: &str| {
-        if let Some(terminal) = &mut terminal {
-            // In place of the line that cargo draws there. A terminal that is gone is no fault.
-            let _ = writeln!(terminal, "\r\x1b[K{line}");
-        }
-    };
     let mut any = false;
     for line in lines.split(b'\n').map_while(Result::ok) {
-        if !any {
-            say("ducatfeather: proving and building the library; this takes minutes, once");
-            any = true;
-        }
         let line = String::from_utf8_lossy(&line);
-        say(&line);
+        if let Some(terminal) = &mut terminal {
+            // In place of the line that cargo draws there. A terminal that is gone is no fault.
+            let _ = writeln!(terminal, "\r\x1b[Kducatfeather: {line}");
+        }
         eprintln!("{line}");
+        any = true;
     }
     any
 }
