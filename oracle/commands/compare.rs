@@ -1,7 +1,8 @@
 //! compare COUNT SEED JOBS: generated blobs through the original and through the library.
 //!
-//! Each blob is read several times, with memory lent in different ways. Compared are all numbers
-//! of the answer and every lent word: those that must be written, and those that must be kept.
+//! Of each blob it is asked what it needs, and it is read several times, with memory lent in
+//! different ways. Compared are all numbers of the answers and every lent word: those that must be
+//! written, and those that must be kept.
 //!
 //! In the lists of each accepted blob templates are looked up, by keys and by offsets, and compared
 //! with what the original finds; also in the lists of blobs that are made for it.
@@ -15,6 +16,7 @@ use std::sync::atomic::{AtomicBool, AtomicU64, Ordering::Relaxed};
 use std::thread;
 
 use answers::{Answer, answer};
+use ducatfeather::raw;
 use generator::known::{self, Shared};
 use generator::{Rng, joins, large};
 use joining::{Joiner, Lists};
@@ -54,9 +56,10 @@ fn main() -> ExitCode {
     let total = totals.into_iter().fold(Totals::default(), Totals::plus);
     println!(
         "{count} blobs of seed {seed} and {LARGE} large ones: {} accepted, {} refused; \
-         {} readings, {} of them 7, {} 8, {} 9: no difference",
+         needs asked {} times; {} readings, {} of them 7, {} 8, {} 9: no difference",
         total.accepted,
         total.refused,
+        total.asked,
         total.readings,
         total.by_code[7],
         total.by_code[8],
@@ -96,6 +99,8 @@ struct Run {
 struct Totals {
     accepted: u64,
     refused: u64,
+    /// How often it was asked what is needed.
+    asked: u64,
     readings: u64,
     by_code: [u64; 10],
     joins: joining::Totals,
@@ -105,6 +110,7 @@ impl Totals {
     fn plus(mut self, other: Totals) -> Totals {
         self.accepted += other.accepted;
         self.refused += other.refused;
+        self.asked += other.asked;
         self.readings += other.readings;
         for (mine, theirs) in self.by_code.iter_mut().zip(other.by_code) {
             *mine += theirs;
@@ -267,6 +273,8 @@ impl Worker {
     /// The same bytes with words that fit, are more, are too few, or are refused.
     fn lend_in_turn(&mut self, blob: &[u8], found: &Answer, rng: &mut Rng) -> Result<(), String> {
         let counts = found.counts();
+        lending::needs(blob, found).map_err(|difference| format!("{difference}{}", shown(blob)))?;
+        self.totals.asked += 1;
         self.read(blob, found, &Lending::exact(&counts))?;
         self.read(blob, found, &Lending::roomy(&counts, rng))?;
         self.read(blob, found, &Lending::refused(&counts, rng))?;
@@ -319,6 +327,14 @@ fn past_32_bits() -> Result<(), String> {
         read.map_err(|difference| {
             format!("65536 providers with 65537 {what:?} each: {difference}")
         })?;
+        let mut needed = [0; raw::NUMBERS];
+        raw::ducat_needs(&blob, &mut needed);
+        let counts: [u64; 2] = [needed[0], needed[4 + list as usize]];
+        if counts != [0, 65_537] {
+            return Err(format!(
+                "65536 providers with 65537 {what:?} each: they need {needed:?}"
+            ));
+        }
     }
     Ok(())
 }

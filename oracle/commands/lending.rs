@@ -83,14 +83,38 @@ impl Lending {
             let capacity = self.capacities[list].into();
             [numbers[0], numbers[3], numbers[4]] = [9, list as u64 + 1, capacity];
         } else {
-            let [code, field, place] = [found.code, found.field, found.place].map(u64::from);
-            numbers[..5].copy_from_slice(&[code, field, place, found.first, found.second]);
-            for (number, count) in numbers[5..].iter_mut().zip(counts) {
-                *number = count as u64;
-            }
+            numbers = told(found);
         }
         numbers
     }
+}
+
+/// The original's answer as the library tells it.
+fn told(found: &Answer) -> Numbers {
+    let [code, field, place] = [found.code, found.field, found.place].map(u64::from);
+    let mut numbers = [0; raw::NUMBERS];
+    numbers[..5].copy_from_slice(&[code, field, place, found.first, found.second]);
+    for (number, count) in numbers[5..].iter_mut().zip(found.counts()) {
+        *number = count as u64;
+    }
+    numbers
+}
+
+/// Asks what bytes need that the original answers so, and says how the answer differs from what
+/// must come: the original's, with numbers of entries that stop rising past what can be lent.
+pub fn needs(blob: &[u8], found: &Answer) -> Result<(), String> {
+    let mut expected = told(found);
+    for number in &mut expected[5..] {
+        *number = (*number).min(u64::from(MOST) + 1);
+    }
+    let mut numbers = [u64::MAX; raw::NUMBERS];
+    let code = raw::ducat_needs(blob, &mut numbers);
+    if numbers != expected || u64::from(code) != expected[0] {
+        return Err(format!(
+            "asked what is needed the library gives {code} and answers {numbers:?} instead of {expected:?}"
+        ));
+    }
+    Ok(())
 }
 
 /// Room for so many entries, but not more than there can be.
