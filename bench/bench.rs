@@ -47,16 +47,17 @@ fn ordinary(words: &str) -> Vec<&'static str> {
     let mut slow = Vec::new();
     for (what, blobs) in [("Block", blobs::whole()), ("Alone", blobs::parts())] {
         println!(
-            "| {what} | Bytes | Original, ns | Library, ns | Ratio | Original, ns/byte | Library, ns/byte |"
+            "| {what} | Bytes | Original, ns | Library, ns | Ratio | Original, ns/byte | Library, ns/byte | Needs, ns |"
         );
-        println!("|---|--:|--:|--:|--:|--:|--:|");
+        println!("|---|--:|--:|--:|--:|--:|--:|--:|");
         for (name, blob) in blobs.into_iter().filter(|(name, _)| name.contains(words)) {
             assert!(measure::original(&blob), "the original refuses {name}");
             assert_eq!(lent.library(&blob), 0, "the library refuses {name}");
-            let (original, library) = measure::medians(&blob, &mut lent);
+            assert_eq!(measure::needs(&blob), 0, "the needs of {name} are refused");
+            let [original, library, needs] = measure::medians(&blob, &mut lent);
             let (length, ratio) = (blob.len() as f64, original / library);
             println!(
-                "| {name} | {} | {original:.0} | {library:.0} | {ratio:.1} | {:.3} | {:.3} |",
+                "| {name} | {} | {original:.0} | {library:.0} | {ratio:.1} | {:.3} | {:.3} | {needs:.0} |",
                 blob.len(),
                 original / length,
                 library / length

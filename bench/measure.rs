@@ -34,11 +34,18 @@ pub fn original(blob: &[u8]) -> bool {
     black_box(&manifest).is_ok()
 }
 
-/// The medians of many readings, original first, in nanoseconds. The two take turns, so that
-/// whatever else the machine does hits both.
-pub fn medians(blob: &[u8], lent: &mut Lent) -> (f64, f64) {
-    // A short reading is repeated, so that the clock doesn't matter.
-    let repeats = |once: Duration| (2_000_000 / once.as_nanos().max(1)).clamp(1, 50_000) as u32;
+/// Asks the library what a block needs; gives the code.
+pub fn needs(blob: &[u8]) -> u32 {
+    let mut answer = [0; raw::NUMBERS];
+    let code = raw::ducat_needs(black_box(blob), &mut answer);
+    black_box(&answer);
+    code
+}
+
+/// The medians of many readings in nanoseconds: by the original, by the library, and by the library
+/// that is only asked what is needed. They take turns, so that whatever else the machine does hits
+/// all of them.
+pub fn medians(blob: &[u8], lent: &mut Lent) -> [f64; 3] {
     let timed = |repeats: u32, read: &mut dyn FnMut()| {
         let start = Instant::now();
         for _ in 0..repeats {
@@ -46,34 +53,37 @@ pub fn medians(blob: &[u8], lent: &mut Lent) -> (f64, f64) {
         }
         start.elapsed() / repeats
     };
-    let mut by_original = || {
-        original(blob);
-    };
-    let mut by_library = || {
-        lent.library(blob);
-    };
+    // A short reading is repeated, so that the clock doesn't matter.
+    let repeats = |once: Duration| (2_000_000 / once.as_nanos().max(1)).clamp(1, 50_000) as u32;
+    let readers: [&mut dyn FnMut(); 3] = [
+        &mut || {
+            original(blob);
+        },
+        &mut || {
+            lent.library(blob);
+        },
+        &mut || {
+            needs(blob);
+        },
+    ];
     // The first of each isn't counted: it brings the bytes and the words into the caches.
-    let turns = repeats(timed(1, &mut by_original));
-    timed(turns, &mut by_original);
-    let original_repeats = repeats(timed(turns, &mut by_original));
-    timed(1, &mut by_library);
-    let library_repeats = repeats(timed(1, &mut by_library));
-
-    let (mut originals, mut libraries) = (Vec::new(), Vec::new());
+    let mut readers = readers.map(|read| {
+        let turns = repeats(timed(1, read));
+        timed(turns, read);
+        (repeats(timed(turns, read)), read, Vec::new())
+    });
     let start = Instant::now();
-    while originals.len() < 15 || originals.len() < 101 && start.elapsed() < Duration::from_secs(3)
-    {
-        // Who begins changes, so that what comes at regular times doesn't always hit the same one.
-        let original_first = originals.len().is_multiple_of(2);
-        if original_first {
-            originals.push(timed(original_repeats, &mut by_original));
+    for turn in 0..101 {
+        if turn >= 15 && start.elapsed() >= Duration::from_secs(4) {
+            break;
         }
-        libraries.push(timed(library_repeats, &mut by_library));
-        if !original_first {
-            originals.push(timed(original_repeats, &mut by_original));
+        // Who begins changes, so that what comes at regular times doesn't always hit the same one.
+        for place in 0..3 {
+            let (repeats, read, times) = &mut readers[(turn + place) % 3];
+            times.push(timed(*repeats, read));
         }
     }
-    (median(originals), median(libraries))
+    readers.map(|(_, _, times)| median(times))
 }
 
 fn median(mut times: Vec<Duration>) -> f64 {

@@ -408,8 +408,8 @@ uint32_t ducat_read(const uint8_t *blob, size_t blob_len,
  * No pointer may be null, not even where its length is 0, and what is written to, the answer and the list of GUIDs, may overlap
  * with nothing else that is lent. Calls that write to memory of their own may run side by side, over the same words too. */
 
-/* By offset: the lowest template, among the entries of DUCAT_LIST_TEMPLATES from number first on, count of them, whose offset is this
- * one. To find an event's template, give first entry and count of its provider's TTBL, and the event's template offset.
+/* By offset: the lowest template, among the entries of DUCAT_LIST_TEMPLATES from number first on, count of them, whose offset is
+ * this one. To find an event's template, give first entry and count of its provider's TTBL, and the event's template offset.
  *
  * A range past the list's count is code 10, also where count is 0. answer_len is DUCAT_TEMPLATE_NUMBERS. */
 uint32_t ducat_template_at(const uint32_t *words, size_t words_len,
@@ -425,8 +425,8 @@ uint32_t ducat_template_at(const uint32_t *words, size_t words_len,
  * guids, guids_len  the list that the GUIDs are written to. Its capacity is guids_len / DUCAT_GUID_WORDS, rounded down; over
  *                   DUCAT_MOST it is code 8. There are at most as many GUIDs as DUCAT_LIST_TEMPLATES has entries.
  *
- * An entry of DUCAT_LIST_TABLES whose provider is not there, whose kind isn't 1 to 8, or whose range is past its list's count is code
- * 10, whether it is used or not; then a list that is too short is 9. answer_len is DUCAT_GUIDS_NUMBERS. Of guids nothing is
+ * An entry of DUCAT_LIST_TABLES whose provider is not there, whose kind isn't 1 to 8, or whose range is past its list's count is
+ * code 10, whether it is used or not; then a list that is too short is 9. answer_len is DUCAT_GUIDS_NUMBERS. Of guids nothing is
  * touched but the GUIDs that are given, and nothing on any other code than 0.
  *
  * It keeps a mark for each template, and uses about 70 KB of stack. */
