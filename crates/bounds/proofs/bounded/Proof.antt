@@ -30,8 +30,8 @@ returns-2 : tie.Need-returns-2
 unfolding run demand bounded
 returns-2 c =
     ⊎-elim
-    (λ w. rw (le-leb _ _ (w .0 .taken), sym (w .1 .ensures) ∙ w .2 .left) (cc))
-    (λ w. rw (lt-leb _ _ (w .left)) (cc))
+    (λ w. rw (le-leb _ _ (w .0 .taken), sym (w .1 .ensures) ∙ w .2 .left, c .size-out .ensures))
+    (λ w. rw (lt-leb _ _ (w .left), c .size-out .ensures))
     (c .before .if1 .came)
 
 pub bounded-spec : {M : Type 1} → statement M

@@ -7,7 +7,7 @@ have-requires : tie.Need-have-requires
 have-requires c κs = search needs
 
 returns : tie.Need-returns
-returns c = cc
+returns c = rw (c .have .ensures)
 
 pub truncated-spec : {M : Type 1} → statement M
 truncated-spec = tie.close (tie.spec have-requires returns)

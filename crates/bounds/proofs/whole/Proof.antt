@@ -17,7 +17,7 @@ truncated-requires c κs = search needs
 
 returns-2 : tie.Need-returns-2
 unfolding run
-returns-2 c = rw (sym (c .before .before .has-room .ensures) ∙ c .before .if1 .left) (cc)
+returns-2 c = rw (sym (c .before .before .has-room .ensures) ∙ c .before .if1 .left, c .truncated .ensures)
 
 pub whole-spec : {M : Type 1} → statement M
 whole-spec = tie.close (tie.spec has-room-requires returns truncated-requires returns-2)

@@ -1,3 +1,6 @@
+use mathlib.Core.Path.{ap, _∙_}
+use Rattle.format.specs.declared.Answer.{Answer}
+use Rattle.ducatfeather.specs.Call.{told, numbers}
 use borrow.Author.Needs.{needs}
 use Rattle.ducatfeather.proofs.ducat_needs.Statement.{statement}
 use Rattle.ducatfeather.proofs.ducat_needs.Tie as tie
@@ -15,7 +18,11 @@ same-length : tie.Need-same-length
 same-length c = search needs
 
 returns : tie.Need-returns
-returns c = (cc, cc)
+returns c =
+    let t = c .before .before .before in
+    let n = t .before .before in
+    let r = n .before .before .needs .ensures in
+    (ap (λ (a : Answer). a .code) r, t .tell .ensures ∙ ap (told _) (n .numbers .ensures ∙ ap numbers r))
 
 numbers-requires : tie.Need-numbers-requires
 numbers-requires c κs = search needs

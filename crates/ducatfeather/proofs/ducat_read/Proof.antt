@@ -1,3 +1,6 @@
+use mathlib.Core.Path.{ap, _∙_}
+use Rattle.format.specs.declared.Answer.{Answer}
+use Rattle.ducatfeather.specs.Call.{told, numbers}
 use borrow.Author.Needs.{needs}
 use Rattle.ducatfeather.proofs.ducat_read.Statement.{statement}
 use Rattle.ducatfeather.proofs.ducat_read.Tie as tie
@@ -18,7 +21,11 @@ same-length-2 : tie.Need-same-length-2
 same-length-2 c = search needs
 
 returns : tie.Need-returns
-returns c = (cc, (cc, cc))
+returns c =
+    let t = c .before .before .before in
+    let n = t .before .before in
+    let r = n .before .before .before .before .read .ensures in
+    (ap (λ (a : Answer). a .code) (r .0), (t .tell .ensures ∙ ap (told _) (n .numbers .ensures ∙ ap numbers (r .0)), r .1))
 
 numbers-requires : tie.Need-numbers-requires
 numbers-requires c κs = search needs

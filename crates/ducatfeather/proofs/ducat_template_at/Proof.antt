@@ -1,3 +1,6 @@
+use mathlib.Core.Path.{ap, _∙_}
+use lib.ListN.{getD}
+use Rattle.ducatfeather.specs.Call.{told, templateNumbers}
 use borrow.Author.Needs.{needs}
 use Rattle.ducatfeather.proofs.ducat_template_at.Statement.{statement}
 use Rattle.ducatfeather.proofs.ducat_template_at.Tie as tie
@@ -21,7 +24,11 @@ same-length : tie.Need-same-length
 same-length c = search needs
 
 returns : tie.Need-returns
-returns c = (cc, cc)
+returns c =
+    let t = c .before .before .before in
+    let n = t .before .before in
+    let f = n .before .before .template-at .ensures in
+    (c .template-code .ensures ∙ ap (λ x. getD (templateNumbers x) 0 0) f, t .tell .ensures ∙ ap (told _) (n .template-numbers .ensures ∙ ap templateNumbers f))
 
 pub ducat-template-at-spec : {M : Type 1} → statement M
 ducat-template-at-spec =

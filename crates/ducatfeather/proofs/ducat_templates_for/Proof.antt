@@ -1,3 +1,6 @@
+use mathlib.Core.Path.{ap, _∙_}
+use lib.ListN.{getD}
+use Rattle.ducatfeather.specs.Call.{told, guidNumbers}
 use borrow.Author.Needs.{needs}
 use Rattle.ducatfeather.proofs.ducat_templates_for.Statement.{statement}
 use Rattle.ducatfeather.proofs.ducat_templates_for.Tie as tie
@@ -24,7 +27,11 @@ same-length-2 : tie.Need-same-length-2
 same-length-2 c = search needs
 
 returns : tie.Need-returns
-returns c = (cc, (cc, cc))
+returns c =
+    let t = c .before .before .before in
+    let n = t .before .before in
+    let f = n .before .before .before .before .templates-for .ensures in
+    (c .guid-code .ensures ∙ ap (λ x. getD (guidNumbers x) 0 0) (f .0), (t .tell .ensures ∙ ap (told _) (n .guid-numbers .ensures ∙ ap guidNumbers (f .0)), f .1))
 
 pub ducat-templates-for-spec : {M : Type 1} → statement M
 ducat-templates-for-spec =

@@ -11,14 +11,14 @@ refusal-requires c κs = search needs
 
 returns : tie.Need-returns
 unfolding called
-returns c = simp (ne-eqb _ _ (c .before .if1 .taken)) (c .refusal .ensures, misfit-keeps _ _ (c .before .before .before .before .before .args .blob .now))
+returns c = rw (ne-eqb _ _ (c .before .if1 .taken)) (c .refusal .ensures, misfit-keeps _ _ (c .before .before .before .before .before .args .blob .now))
 
 refusal-requires-2 : tie.Need-refusal-requires-2
 refusal-requires-2 c κs = search needs
 
 returns-2 : tie.Need-returns-2
 unfolding called
-returns-2 c = simp (eq-eqb _ _ (c .before .before .if1 .left), ne-eqb _ _ (c .before .if2 .taken)) (c .refusal2 .ensures, misfit-keeps _ _ (c .before .before .before .before .before .before .args .blob .now))
+returns-2 c = rw (eq-eqb _ _ (c .before .before .if1 .left), ne-eqb _ _ (c .before .if2 .taken)) (c .refusal2 .ensures, misfit-keeps _ _ (c .before .before .before .before .before .before .args .blob .now))
 
 for-lists-requires : tie.Need-for-lists-requires
 for-lists-requires c κs = search needs
@@ -35,7 +35,7 @@ returns-3 c =
     let r = c .before .before in
     let i = r .before .before .before in
     let k = r .before .for-lists .ensures in
-    simp (eq-eqb _ _ (i .before .if1 .left), eq-eqb _ _ (i .if2 .left)) (rw k at (r .read .ensures .0), rw k at (r .read .ensures .1))
+    rw (eq-eqb _ _ (i .before .if1 .left), eq-eqb _ _ (i .if2 .left)) (rw k at (r .read .ensures .0), rw k at (r .read .ensures .1))
 
 pub read-spec : {M : Type 1} → statement M
 read-spec =

@@ -27,7 +27,7 @@ word-requires-4 : tie.Need-word-requires-4
 word-requires-4 c κs = search needs
 
 returns : tie.Need-returns
-returns c = guid-found _ _ ∙ cc
+returns c = guid-found _ _ ∙ rw (c .word4 .ensures, c .before .word3 .ensures, c .before .before .word2 .ensures, c .before .before .before .word .ensures)
 
 pub guid-at-spec : {M : Type 1} → statement M
 guid-at-spec =
