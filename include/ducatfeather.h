@@ -1,23 +1,27 @@
 /* Ducatfeather: reads a CRIM block into lent memory, and finds templates in what was read. docs/FORMAT.md says what each number
- * means. In short, in C (a word more than is needed is asked of malloc, so that the words aren't null where none is needed):
+ * means. In short, in C (one word more than is needed is asked of malloc, so that the words aren't null where none is needed):
  *
  *     uint64_t answer[DUCAT_NUMBERS];
  *     uint32_t capacities[DUCAT_AREAS];
- *     if (ducat_needs(bytes, bytes_len, answer, DUCAT_NUMBERS) != DUCAT_ACCEPTED)
- *         return refused(answer);
- *     ducat_counts(answer, capacities);
- *     size_t words_len = ducat_words(capacities);
- *     uint32_t *words = malloc((words_len + 1) * sizeof *words);
- *     if (words == NULL)
- *         return no_memory();
- *     if (ducat_read(bytes, bytes_len, words, words_len, capacities, DUCAT_AREAS, answer, DUCAT_NUMBERS) != DUCAT_ACCEPTED)
- *         return refused(answer);
- *     for (uint32_t i = 0; i < ducat_count(answer, DUCAT_LIST_TEMPLATES); i++) {
- *         struct ducat_template entry;
- *         ducat_entry(words, capacities, DUCAT_LIST_TEMPLATES, i, &entry, sizeof entry);
- *         ...
+ *     uint32_t code = ducat_needs(bytes, bytes_len, answer, DUCAT_NUMBERS);
+ *     if (code == DUCAT_ACCEPTED) {
+ *         ducat_counts(answer, capacities);
+ *         size_t words_len = ducat_words(capacities);
+ *         uint32_t *words = malloc((words_len + 1) * sizeof *words);
+ *         if (words == NULL)
+ *             abort();
+ *         code = ducat_read(bytes, bytes_len, words, words_len, capacities, DUCAT_AREAS, answer, DUCAT_NUMBERS);
+ *         for (uint32_t i = 0; i < ducat_count(answer, DUCAT_LIST_TEMPLATES); i++) {
+ *             struct ducat_template entry;
+ *             ducat_entry(words, capacities, DUCAT_LIST_TEMPLATES, i, &entry, sizeof entry);
+ *             printf("template %u size %u\n", (unsigned)entry.offset, (unsigned)entry.size);
+ *         }
+ *         free(words);
  *     }
- */
+ *     if (code != DUCAT_ACCEPTED)
+ *         printf("refused %u %llu\n", (unsigned)code, (unsigned long long)answer[DUCAT_PLACE]);
+ *
+ * A refusal has no entries, so the loop does nothing then. */
 #ifndef DUCATFEATHER_H
 #define DUCATFEATHER_H
 

@@ -64,11 +64,6 @@ impl Capacities {
         each.map(|(list, entries)| list.words() * entries as usize)
     }
 
-    /// The same room, but no more than there can be.
-    pub(crate) fn lendable(self) -> Capacities {
-        Capacities(self.0.map(|entries| entries.min(Self::LIMIT)))
-    }
-
     /// The counts of an answer. None is over 32 bits.
     pub(crate) fn from_counts(counts: [u64; LISTS]) -> Capacities {
         Capacities(counts.map(|count| count as u32))

@@ -5,7 +5,7 @@ use std::marker::PhantomData;
 use std::ops::Range;
 
 use crate::list::List;
-use crate::words::FromWords;
+use crate::words::{FromWords, Words};
 
 /// What a list's words are read as. Other crates can't add to the types that have it.
 pub trait Entry<'a>: FromWords<'a> {
@@ -53,7 +53,7 @@ impl<'a, T: Entry<'a>> Iterator for Entries<'a, T> {
     fn next(&mut self) -> Option<T> {
         let (entry, rest) = self.words.split_at_checked(Self::WORDS)?;
         self.words = rest;
-        Some(T::from_words(entry, self.block))
+        Some(T::from_words(Words(entry), self.block))
     }
 
     fn nth(&mut self, number: usize) -> Option<T> {

@@ -1,6 +1,7 @@
 //! Reading a block.
 
 use crate::capacities::Capacities;
+use crate::list::List;
 use crate::manifest::Manifest;
 use crate::raw;
 use crate::refusal::Refusal;
@@ -17,9 +18,12 @@ pub fn needs(blob: &[u8]) -> Result<Capacities, Refusal> {
 
 /// Reads a block into words that are allocated for it: as many as it needs.
 pub fn read(blob: &[u8]) -> Result<Manifest<'_>, Refusal> {
-    // A list that needs more than there can be room for gets all there can be, and the reading
-    // refuses it by its name.
-    let capacities = needs(blob)?.lendable();
+    let capacities = needs(blob)?;
+    // The first list that needs more than there can be room for is what a reading would refuse.
+    if let Some(list) = List::all().find(|&list| capacities.of(list) > Capacities::LIMIT) {
+        let [number, capacity] = [list.number(), Capacities::LIMIT].map(u64::from);
+        return Err(Refusal::new(9, [0, 0, number, capacity]));
+    }
     let mut words = vec![0; capacities.words().expect("no capacity over the limit")];
     let answer = ask(blob, &capacities, &mut words)?;
     Ok(Manifest::new(blob, words.into(), capacities, &answer))

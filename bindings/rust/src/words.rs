@@ -8,11 +8,14 @@ use crate::entry::{
 };
 use crate::parts::{Guid, Name, Part, Signature};
 
-/// What can be read from the words of an entry. Other crates can't reach this trait, and so can't
-/// add to those that need it.
+/// The words of one entry, as many as the list's entries have.
+pub struct Words<'w>(pub(crate) &'w [u32]);
+
+/// What can be read from the words of an entry. Other crates can't name this trait, and so can't
+/// add to those that need it; nor can they make words, and so can't call it.
 pub trait FromWords<'a>: Sized {
-    /// The entry of so many words, as many as the list's entries have, read from this block.
-    fn from_words(words: &[u32], block: &'a [u8]) -> Self;
+    /// The entry of these words, read from this block.
+    fn from_words(words: Words<'_>, block: &'a [u8]) -> Self;
 }
 
 /// A message's number; the highest there is says that there is none.
@@ -35,8 +38,8 @@ fn numbers(first: u32, count: u32) -> Range<usize> {
 }
 
 /// The entry's words, by their number.
-fn exactly<const N: usize>(words: &[u32]) -> [u32; N] {
-    words.try_into().expect("an entry's words")
+fn exactly<const N: usize>(words: Words<'_>) -> [u32; N] {
+    words.0.try_into().expect("an entry's words")
 }
 
 impl Kind {
@@ -56,7 +59,7 @@ impl Kind {
 }
 
 impl FromWords<'_> for Provider {
-    fn from_words(words: &[u32], _: &[u8]) -> Provider {
+    fn from_words(words: Words<'_>, _: &[u8]) -> Provider {
         let [
             a,
             b,
@@ -80,7 +83,7 @@ impl FromWords<'_> for Provider {
 }
 
 impl FromWords<'_> for Descriptor {
-    fn from_words(words: &[u32], _: &[u8]) -> Descriptor {
+    fn from_words(words: Words<'_>, _: &[u8]) -> Descriptor {
         let [offset, unknown, signature] = exactly(words);
         Descriptor {
             offset,
@@ -91,14 +94,14 @@ impl FromWords<'_> for Descriptor {
 }
 
 impl FromWords<'_> for u32 {
-    fn from_words(words: &[u32], _: &[u8]) -> u32 {
+    fn from_words(words: Words<'_>, _: &[u8]) -> u32 {
         let [word] = exactly(words);
         word
     }
 }
 
 impl<'a> FromWords<'a> for Table<'a> {
-    fn from_words(words: &[u32], block: &'a [u8]) -> Table<'a> {
+    fn from_words(words: Words<'_>, block: &'a [u8]) -> Table<'a> {
         let [
             provider,
             kind,
@@ -123,7 +126,7 @@ impl<'a> FromWords<'a> for Table<'a> {
 }
 
 impl<'a> FromWords<'a> for Definition<'a> {
-    fn from_words(words: &[u32], block: &'a [u8]) -> Definition<'a> {
+    fn from_words(words: Words<'_>, block: &'a [u8]) -> Definition<'a> {
         let [
             kind,
             low,
@@ -148,7 +151,7 @@ impl<'a> FromWords<'a> for Definition<'a> {
 }
 
 impl FromWords<'_> for Event {
-    fn from_words(words: &[u32], _: &[u8]) -> Event {
+    fn from_words(words: Words<'_>, _: &[u8]) -> Event {
         let [
             identifier,
             version,
@@ -189,7 +192,7 @@ impl FromWords<'_> for Event {
 }
 
 impl<'a> FromWords<'a> for Map<'a> {
-    fn from_words(words: &[u32], block: &'a [u8]) -> Map<'a> {
+    fn from_words(words: Words<'_>, block: &'a [u8]) -> Map<'a> {
         let [
             kind,
             signature,
@@ -221,7 +224,7 @@ impl<'a> FromWords<'a> for Map<'a> {
 }
 
 impl FromWords<'_> for MapEntry {
-    fn from_words(words: &[u32], _: &[u8]) -> MapEntry {
+    fn from_words(words: Words<'_>, _: &[u8]) -> MapEntry {
         let [identifier, text] = exactly(words);
         MapEntry {
             identifier,
@@ -231,7 +234,7 @@ impl FromWords<'_> for MapEntry {
 }
 
 impl<'a> FromWords<'a> for Template<'a> {
-    fn from_words(words: &[u32], block: &'a [u8]) -> Template<'a> {
+    fn from_words(words: Words<'_>, block: &'a [u8]) -> Template<'a> {
         let [
             offset,
             size,
@@ -260,7 +263,7 @@ impl<'a> FromWords<'a> for Template<'a> {
 }
 
 impl<'a> FromWords<'a> for UnknownElement<'a> {
-    fn from_words(words: &[u32], block: &'a [u8]) -> UnknownElement<'a> {
+    fn from_words(words: Words<'_>, block: &'a [u8]) -> UnknownElement<'a> {
         let [provider, signature, offset, size] = exactly(words);
         UnknownElement {
             provider,

@@ -3,7 +3,7 @@
 -- takes any of those four bytes for anything besides CRIM.size.
 use Prim.{Unit, tt}
 use Prim.Native.Nat.{ℕ, zero, suc, _+_, _≤_, _<_}
-use mathlib.Core.Path.{_≡_, refl, sym, _∙_, subst}
+use mathlib.Core.Path.{_≡_, refl, ap, sym, _∙_, subst}
 use mathlib.Core.Bool.{Bool, true, false}
 use mathlib.Core.List.{List, [], _∷_, _++_}
 use native.Mathlib.Omega.{arith}
@@ -18,7 +18,7 @@ use Rattle.blob.specs.Laws.{run-number, then-done, choose-done}
 use Rattle.blob.specs.Longer.{Agree, longer}
 use Rattle.format.specs.Crim.{CRIM, Crim, header, providersOf, crim}
 use Rattle.format.specs.Lists.{Entry, lists}
-use Rattle.format.specs.Answer.{ten, widths, moderate, areas, lent-enough, with-room, reading}
+use Rattle.format.specs.Answer.{ten, widths, moderate, areas, lent-enough, with-room, reading, counted, answer, filled, held}
 use Rattle.format.specs.Rests.{providersBytes, restsOn}
 use Rattle.format.specs.Rested.{Headed, Read, crim-read, asked, headed, n-bytes}
 use Rattle.format.specs.declared.Counts.{Counts}
@@ -201,3 +201,15 @@ unfolding reading then
 longer-block first words capacities c e second words' capacities' l r =
     let read = crim-read first c (reading-crim first words capacities c e) in
     (resized second c, simp (le-leb (length second) 16777216 (l .at-most), moderate-each (ten capacities') (r .moderate), le-leb (areas (ten capacities') widths) (length words') (r .enough), second-crim first second c read l, with-room-fits 1 (ten capacities') (lists (c .providers)) (resized second c) (r .within)), refl)
+
+-- the same in the terms of a reading's contract: the same ten counts are answered, and the lent words hold the same ten lists
+pub longer-read : (first words : List ℕ) (capacities : Counts) (c : Crim) → reading first words capacities ≡ done c
+    → (second words' : List ℕ) (capacities' : Counts) → Longer first second c → Room words' capacities' (lists (c .providers))
+    → (answer (reading second words' capacities') .code ≡ 0)
+    × (answer (reading second words' capacities') .counts ≡ answer (reading first words capacities) .counts)
+    × (held words capacities (reading first words capacities) ≡ filled words 0 (ten capacities) widths (lists (c .providers)))
+    × (held words' capacities' (reading second words' capacities') ≡ filled words' 0 (ten capacities') widths (lists (c .providers)))
+unfolding answer held
+longer-read first words capacities c e second words' capacities' l r =
+    let x = longer-block first words capacities c e second words' capacities' l r in
+    rw (e, x .1) (refl, ap counted (x .2), refl, ap (filled words' 0 (ten capacities') widths) (x .2))

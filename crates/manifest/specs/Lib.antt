@@ -2,4 +2,3 @@ pub mod Read
 pub mod Areas
 pub mod Walked
 pub mod Stored
-pub mod Longer
