@@ -1,12 +1,18 @@
--- Way by way.
-use mathlib.Core.Path.{_∙_}
+-- Way by way. The equations are named: `cc` would read all that is known at a place for each.
+use mathlib.Core.Path.{_≡_, sym, _∙_}
 use native.Mathlib.Omega.{arith}
+use Rattle.blob.specs.Le.{le}
 use Rattle.blob.specs.Laws.{answer-found, answer-refused}
 use Rattle.format.specs.declared.CrimRead.the-variants as read
+use Rattle.format.specs.Crim.{CRIM}
 use Rattle.crim.specs.Header.{no-signature, other-signature, no-size, no-major, no-minor, no-count, size-under, size-past, header-found}
 use borrow.Author.Needs.{needs}
 use Rattle.crim.proofs.header.Statement.{statement}
 use Rattle.crim.proofs.header.Tie as tie
+
+-- past its test the signature is CRIM
+signed : (e : tie.Else2) → le 4 (e .before .before .before .before .args .b .now) 0 ≡ CRIM
+signed e = sym (e .before .word .ensures) ∙ e .if2 .left
 
 truncated-requires : tie.Need-truncated-requires
 truncated-requires c κs = search needs
@@ -21,31 +27,33 @@ wrong-signature-requires : tie.Need-wrong-signature-requires
 wrong-signature-requires c κs = search needs
 
 returns-2 : tie.Need-returns-2
-returns-2 c = answer-refused read.Header read.Refused _ _ _ (cc) (other-signature _ (omega arith) (λ e. c .before .if2 .taken (c .before .before .word .ensures ∙ e)))
+returns-2 c =
+    let w = c .before .before .word .ensures in
+    answer-refused read.Header read.Refused _ _ _ (rw (← w) (c .wrong-signature .ensures)) (other-signature _ (omega arith) (λ e. c .before .if2 .taken (w ∙ e)))
 
 truncated-requires-2 : tie.Need-truncated-requires-2
 truncated-requires-2 c κs = search needs
 
 returns-3 : tie.Need-returns-3
-returns-3 c = answer-refused read.Header read.Refused _ _ _ (c .truncated2 .ensures) (no-size _ (omega arith) (cc) (omega arith))
+returns-3 c = answer-refused read.Header read.Refused _ _ _ (c .truncated2 .ensures) (no-size _ (omega arith) (signed (c .before .before)) (omega arith))
 
 truncated-requires-3 : tie.Need-truncated-requires-3
 truncated-requires-3 c κs = search needs
 
 returns-4 : tie.Need-returns-4
-returns-4 c = answer-refused read.Header read.Refused _ _ _ (c .truncated3 .ensures) (no-major _ (omega arith) (cc) (omega arith) (omega arith))
+returns-4 c = answer-refused read.Header read.Refused _ _ _ (c .truncated3 .ensures) (no-major _ (omega arith) (signed (c .before .before .before)) (omega arith) (omega arith))
 
 truncated-requires-4 : tie.Need-truncated-requires-4
 truncated-requires-4 c κs = search needs
 
 returns-5 : tie.Need-returns-5
-returns-5 c = answer-refused read.Header read.Refused _ _ _ (c .truncated4 .ensures) (no-minor _ (omega arith) (cc) (omega arith) (omega arith))
+returns-5 c = answer-refused read.Header read.Refused _ _ _ (c .truncated4 .ensures) (no-minor _ (omega arith) (signed (c .before .before .before .before)) (omega arith) (omega arith))
 
 truncated-requires-5 : tie.Need-truncated-requires-5
 truncated-requires-5 c κs = search needs
 
 returns-6 : tie.Need-returns-6
-returns-6 c = answer-refused read.Header read.Refused _ _ _ (c .truncated5 .ensures) (no-count _ (omega arith) (cc) (omega arith) (omega arith))
+returns-6 c = answer-refused read.Header read.Refused _ _ _ (c .truncated5 .ensures) (no-count _ (omega arith) (signed (c .before .before .before .before .before)) (omega arith) (omega arith))
 
 word-requires-2 : tie.Need-word-requires-2
 word-requires-2 c κs = search needs
@@ -54,7 +62,9 @@ size-out-requires : tie.Need-size-out-requires
 size-out-requires c κs = search needs
 
 returns-7 : tie.Need-returns-7
-returns-7 c = answer-refused read.Header read.Refused _ _ _ (cc) (size-under _ (omega arith) (cc) (omega arith) (omega arith))
+returns-7 c =
+    let w = c .before .before in
+    answer-refused read.Header read.Refused _ _ _ (rw (← w .word2 .ensures) (c .size-out .ensures)) (size-under _ (omega arith) (signed (w .before .before .before .before .before)) (omega arith) (omega arith))
 
 cast-if8 : tie.Need-cast-if8
 cast-if8 c = search needs
@@ -63,7 +73,9 @@ size-out-requires-2 : tie.Need-size-out-requires-2
 size-out-requires-2 c κs = search needs
 
 returns-8 : tie.Need-returns-8
-returns-8 c = answer-refused read.Header read.Refused _ _ _ (cc) (size-past _ (omega arith) (cc) (omega arith) (omega arith) (omega arith))
+returns-8 c =
+    let w = c .before .before .before in
+    answer-refused read.Header read.Refused _ _ _ (rw (← w .word2 .ensures) (c .size-out2 .ensures)) (size-past _ (omega arith) (signed (w .before .before .before .before .before)) (omega arith) (omega arith) (omega arith))
 
 half-requires : tie.Need-half-requires
 half-requires c κs = search needs
@@ -75,7 +87,10 @@ word-requires-3 : tie.Need-word-requires-3
 word-requires-3 c κs = search needs
 
 returns-9 : tie.Need-returns-9
-returns-9 c = answer-found read.Header read.Refused _ _ _ (cc) (header-found _ (omega arith) (cc) (omega arith) (omega arith) (omega arith))
+returns-9 c =
+    let w = c .before .before .before .before .before in
+    answer-found read.Header read.Refused _ _ _ (rw (c .word3 .ensures, c .before .half2 .ensures, c .before .before .half .ensures, w .word2 .ensures))
+    (header-found _ (omega arith) (signed (w .before .before .before .before .before)) (omega arith) (omega arith) (omega arith))
 
 pub header-spec : {M : Type 1} → statement M
 header-spec =
