@@ -14,7 +14,7 @@ offset-out-requires : tie.Need-offset-out-requires
 offset-out-requires c κs = search needs
 
 returns : tie.Need-returns
-returns c = answer-refused read.Header read.Refused _ _ _ (cc) (header-past _ _ _ (omega arith))
+returns c = answer-refused read.Header read.Refused _ _ _ (rw (← c .before .field .ensures) (c .offset-out .ensures)) (header-past _ _ _ (omega arith))
 
 header-length-requires : tie.Need-header-length-requires
 header-length-requires c κs = search needs
@@ -32,7 +32,9 @@ truncated-requires : tie.Need-truncated-requires
 truncated-requires c κs = search needs
 
 returns-2 : tie.Need-returns-2
-returns-2 c = answer-refused read.Header read.Refused _ _ _ (cc) (header-short _ _ _ (omega arith) (omega arith))
+returns-2 c =
+    let l = c .before .before .before .header-length .ensures .0 in
+    answer-refused read.Header read.Refused _ _ _ (rw (← c .before .field2 .ensures, ← l) (c .truncated .ensures)) (header-short _ _ _ (omega arith) (omega arith))
 
 word-requires : tie.Need-word-requires
 word-requires c κs = search needs
@@ -44,7 +46,11 @@ wrong-signature-requires : tie.Need-wrong-signature-requires
 wrong-signature-requires c κs = search needs
 
 returns-3 : tie.Need-returns-3
-returns-3 c = answer-refused read.Header read.Refused _ _ _ (cc) (header-other _ _ _ (omega arith) (λ e. c .before .if3 .taken (c .before .before .before .word .ensures ∙ e ∙ sym (c .before .before .signature .ensures))))
+returns-3 c =
+    let m = c .before .before in
+    let w = m .before .word .ensures in
+    let g = m .signature .ensures in
+    answer-refused read.Header read.Refused _ _ _ (rw (← w, ← g) (c .wrong-signature .ensures)) (header-other _ _ _ (omega arith) (λ e. c .before .if3 .taken (w ∙ e ∙ sym g)))
 
 add-word : tie.Need-add-word
 add-word c = search needs
@@ -59,7 +65,10 @@ word-requires-3 : tie.Need-word-requires-3
 word-requires-3 c κs = search needs
 
 returns-4 : tie.Need-returns-4
-returns-4 c = answer-found read.Header read.Refused _ _ _ (cc) (header-found _ _ _ (omega arith) (cc))
+returns-4 c =
+    let t = c .before .before in
+    let m = t .before in
+    answer-found read.Header read.Refused _ _ _ (rw (c .word3 .ensures, c .before .word2 .ensures)) (header-found _ _ _ (omega arith) (sym (m .before .word .ensures) ∙ t .if3 .left ∙ m .signature .ensures))
 
 pub header-at-spec : {M : Type 1} → statement M
 header-at-spec =

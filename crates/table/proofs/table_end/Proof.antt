@@ -31,13 +31,19 @@ truncated-requires : tie.Need-truncated-requires
 truncated-requires c κs = search needs
 
 returns : tie.Need-returns
-returns c = answer-refused read.End read.Refused _ _ _ (cc) (end-cut _ _ _ _ (c .before .before .before .if1 .taken) (omega arith))
+returns c =
+    let t = c .before .before .before in
+    let m = t .before .before in
+    answer-refused read.End read.Refused _ _ _ (rw (← c .before .field .ensures, ← m .records-length .ensures .0, ← m .before .header-length .ensures .0) (c .truncated .ensures))
+    (end-cut _ _ _ _ (t .if1 .taken) (omega arith))
 
 add-t12 : tie.Need-add-t12
 add-t12 c = search needs
 
 returns-2 : tie.Need-returns-2
-returns-2 c = answer-found read.End read.Refused _ _ _ (cc) (end-by-count _ _ _ _ (c .before .if1 .taken) (omega arith))
+returns-2 c =
+    let m = c .before .before .before in
+    answer-found read.End read.Refused _ _ _ (rw (m .records-length .ensures .0, m .before .header-length .ensures .0)) (end-by-count _ _ _ _ (c .before .if1 .taken) (omega arith))
 
 field-requires-2 : tie.Need-field-requires-2
 field-requires-2 c κs = search needs
@@ -74,7 +80,7 @@ returns-4 c =
     let m = b .before .before in
     let l = m .before .before .before .before .before in
     let e = is-place _ _ (sym (b .bound .given .1) ∙ m .bounded .ensures) in
-    answer-refused read.End read.Refused _ _ _ (cc)
+    answer-refused read.End read.Refused _ _ _ (rw (← c .before .field3 .ensures) (c .size-out .ensures))
     (end-past _ _ _ _ _ _ (m .before .field2 .ensures) (l .header-length .ensures .0) (m .before .before .if1 .left) _ e (omega arith))
 
 returns-5 : tie.Need-returns-5
