@@ -37,7 +37,9 @@ word-requires-3 : tie.Need-word-requires-3
 word-requires-3 c κs = search needs
 
 returns-3 : tie.Need-returns-3
-returns-3 c = answer-found read.Descriptor read.Refused _ _ _ (cc) (descriptor-found _ _ _ (c .before .before .before .before .word .ensures) (omega arith))
+returns-3 c =
+    let u = c .before .before .before in
+    answer-found read.Descriptor read.Refused _ _ _ (rw (c .word3 .ensures, u .word2 .ensures)) (descriptor-found _ _ _ (u .before .word .ensures) (omega arith))
 
 pub descriptor-at-spec : {M : Type 1} → statement M
 descriptor-at-spec =

@@ -1,4 +1,4 @@
-use mathlib.Core.Path.{_∙_}
+use mathlib.Core.Path.{sym, _∙_}
 use native.Mathlib.Omega.{arith}
 use borrow.Author.Needs.{needs}
 use Rattle.blob.specs.Laws.{answer-found, answer-refused}
@@ -29,7 +29,9 @@ wrong-signature-requires : tie.Need-wrong-signature-requires
 wrong-signature-requires c κs = search needs
 
 returns-3 : tie.Need-returns-3
-returns-3 c = answer-refused read.Wevt read.Refused _ _ _ (cc) (wevt-other _ _ (omega arith) (λ e. c .before .if3 .taken (c .before .before .word .ensures ∙ e)))
+returns-3 c =
+    let w = c .before .before .word .ensures in
+    answer-refused read.Wevt read.Refused _ _ _ (rw (← w) (c .wrong-signature .ensures)) (wevt-other _ _ (omega arith) (λ e. c .before .if3 .taken (w ∙ e)))
 
 add-word : tie.Need-add-word
 add-word c = search needs
@@ -56,7 +58,13 @@ word-requires-5 : tie.Need-word-requires-5
 word-requires-5 c κs = search needs
 
 returns-4 : tie.Need-returns-4
-returns-4 c = answer-found read.Wevt read.Refused _ _ _ (cc) (wevt-found _ _ (omega arith) (cc))
+returns-4 c =
+    let u = c .before in
+    let d = u .before in
+    let m = d .before in
+    let t = m .before in
+    answer-found read.Wevt read.Refused _ _ _ (rw (c .word5 .ensures, u .word4 .ensures, d .word3 .ensures, m .word2 .ensures))
+    (wevt-found _ _ (omega arith) (sym (t .before .word .ensures) ∙ t .if3 .left))
 
 pub wevt-at-spec : {M : Type 1} → statement M
 wevt-at-spec =
