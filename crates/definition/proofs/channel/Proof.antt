@@ -34,7 +34,11 @@ none-requires c κs = search needs
 
 returns : tie.Need-returns
 unfolding channelFields run
-returns c = simp run-number (cc)
+returns c =
+    let a = c .before .before in
+    let w = a .before in
+    simp run-number
+    (rw (c .none .ensures, c .before .word4 .ensures, a .absent .ensures, w .word3 .ensures, w .before .word2 .ensures, w .before .before .word .ensures))
 
 pub channel-spec : {M : Type 1} → statement M
 channel-spec =

@@ -34,7 +34,10 @@ none-requires c κs = search needs
 
 returns : tie.Need-returns
 unfolding keywordFields run
-returns c = simp run-number (cc)
+returns c =
+    let w = c .before .before in
+    simp run-number
+    (rw (c .none .ensures, c .before .absent .ensures, w .word4 .ensures, w .before .word3 .ensures, w .before .before .word2 .ensures, w .before .before .before .word .ensures))
 
 pub keyword-spec : {M : Type 1} → statement M
 keyword-spec =

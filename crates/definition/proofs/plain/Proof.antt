@@ -28,7 +28,9 @@ none-requires c κs = search needs
 
 returns : tie.Need-returns
 unfolding plainFields run
-returns c = simp run-number (cc)
+returns c =
+    let w = c .before .before in
+    simp run-number (rw (c .none .ensures, c .before .absent .ensures, w .word3 .ensures, w .before .word2 .ensures, w .before .before .word .ensures))
 
 pub plain-spec : {M : Type 1} → statement M
 plain-spec =

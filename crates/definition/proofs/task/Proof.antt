@@ -29,7 +29,10 @@ guid-at-requires : tie.Need-guid-at-requires
 guid-at-requires c κs = search needs
 
 returns : tie.Need-returns
-returns c = task-found _ _ _ (c .guid-at .ensures) ∙ cc
+returns c =
+    let a = c .before in
+    let w = a .before in
+    task-found _ _ _ (c .guid-at .ensures) ∙ rw (a .absent .ensures, w .word3 .ensures, w .before .word2 .ensures, w .before .before .word .ensures)
 
 pub task-spec : {M : Type 1} → statement M
 task-spec =
