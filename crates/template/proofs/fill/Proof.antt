@@ -1,10 +1,9 @@
 -- A table that was found fine has a region, whose TEMPs are those of the table (Templates).
-use Prim.Native.Nat.{ℕ}
-use mathlib.Core.Path.{_≡_, ap, sym, _∙_}
+use mathlib.Core.Path.{ap, sym, _∙_}
 use native.Mathlib.Omega.{arith}
 use borrow.Author.Needs.{needs}
-use Rattle.blob.specs.declared.Verdict.the-variants as verdicts
 use Rattle.blob.specs.Reading.{verdict}
+use Rattle.blob.specs.Laws.{not-fine}
 use Rattle.format.specs.Ends.{region-bounds}
 use Rattle.template.specs.Templates.{templates-told, templates-refused}
 use Rattle.template.proofs.fill.Statement.{statement}
@@ -22,9 +21,8 @@ enum-told c = search needs
 returns : tie.Need-returns
 returns c =
     let r = c .before .before in
-    let z : verdicts.Refused _ ≡ verdicts.Fine =
-    sym (ap verdict (templates-refused _ _ _ _ (sym (c .enum-told .given .1) ∙ r .region-end .ensures))) ∙ r .before .before .before .pre .1 .1 in
-    absurd (let z0 : _≡_ {A = ℕ} 0 1 = cc in omega arith)
+    let stop = ap verdict (templates-refused _ _ _ _ (sym (c .enum-told .given .1) ∙ r .region-end .ensures)) in
+    absurd (not-fine _ (sym stop ∙ r .before .before .before .pre .1 .1))
 
 add-fill-until : tie.Need-add-fill-until
 add-fill-until c = search needs

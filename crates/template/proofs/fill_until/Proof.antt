@@ -1,12 +1,12 @@
 -- The invariant: what is left decides. The rest, laid from here, makes the area what it shall be, and the rest is fine.
-use Prim.Native.Nat.{ℕ, _+_, _*_, _≤_}
+use Prim.Native.Nat.{_+_, _*_, _≤_}
 use mathlib.Core.Path.{_≡_, refl, sym, _∙_}
 use native.Mathlib.Omega.{arith}
 use lib.ListN.{length}
 use borrow.Author.Needs.{needs}
 use Rattle.blob.specs.declared.Verdict.the-variants as verdicts
 use Rattle.blob.specs.Reading.{run, many, verdict}
-use Rattle.blob.specs.Laws.{many-more, many-stop, rest, rest-more, rest-none}
+use Rattle.blob.specs.Laws.{many-more, many-stop, not-fine, rest, rest-more, rest-none}
 use Rattle.format.specs.Region.{until}
 use Rattle.format.specs.Template.{templateAt, next}
 use Rattle.format.specs.Lists.{templateWords}
@@ -44,10 +44,8 @@ same-length c = search needs
 returns : tie.Need-returns Inv-loop μ-loop
 returns c =
     let m = c .before .before in
-    let z : verdicts.Refused _ ≡ verdicts.Fine =
-    sym (many-stop _ next _ _ _ _ (m .before .loop-test .taken) (is-refused _ _ (sym (c .enum-told .given .1) ∙ m .template-at .ensures)))
-    ∙ m .before .before .loop .inv .3 in
-    absurd (let z0 : _≡_ {A = ℕ} 0 1 = cc in omega arith)
+    let stop = many-stop _ next _ _ _ _ (m .before .loop-test .taken) (is-refused _ _ (sym (c .enum-told .given .1) ∙ m .template-at .ensures)) in
+    absurd (not-fine _ (sym stop ∙ m .before .before .loop .inv .3))
 
 put-requires : tie.Need-put-requires Inv-loop μ-loop
 put-requires c κs = search needs

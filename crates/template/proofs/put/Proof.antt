@@ -1,7 +1,6 @@
--- Three times four words are the template's twelve.
-use native.Mathlib.Nat.{add-assoc}
+-- Three times four words are the twelve.
+use Rattle.blob.specs.Laid.{laid-behind}
 use borrow.Author.Needs.{needs}
-use Rattle.blob.specs.Laid.{laid}
 use Rattle.template.proofs.put.Statement.{statement}
 use Rattle.template.proofs.put.Tie as tie
 
@@ -24,12 +23,11 @@ same-length : tie.Need-same-length
 same-length c = search needs
 
 returns : tie.Need-returns
-unfolding laid
 returns c =
-    let p3 = c .before .before in
-    let p2 = p3 .before .before .before .before in
-    let p1 = p2 .before .before .before .before in
-    rw (p3 .put-four3 .ensures, p2 .put-four2 .ensures, p1 .put-four .ensures) (simp add-assoc)
+    let p = c .before .before in
+    let o = p .before .before .before .before in
+    let n = o .before .before .before .before in
+    laid-behind _ _ _ _ _ _ (laid-behind _ _ _ _ _ _ (n .put-four .ensures) (o .put-four2 .ensures)) (p .put-four3 .ensures)
 
 pub put-spec : {M : Type 1} → statement M
 put-spec =
