@@ -19,7 +19,7 @@ cut-requires : tie.Need-cut-requires
 cut-requires c κs = search needs
 
 returns : tie.Need-returns
-returns c = cc
+returns c = rw (c .cut .ensures, c .before .absent .ensures, c .before .before .pick .ensures)
 
 pub other-map-spec : {M : Type 1} → statement M
 other-map-spec =

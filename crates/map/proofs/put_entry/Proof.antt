@@ -35,7 +35,7 @@ same-length c = search needs
 
 returns : tie.Need-returns
 unfolding laid
-returns c = cc
+returns c = rw (c .word2 .ensures, c .before .word .ensures)
 
 pub put-entry-spec : {M : Type 1} → statement M
 put-entry-spec =
