@@ -1,5 +1,5 @@
 -- The invariant: what is left decides. The kept tables of the kinds that are left, with what was counted before, need what all do.
-use Prim.Native.Nat.{_+_, _≤_}
+use Prim.Native.Nat.{_+_, _-_, _≤_}
 use mathlib.Core.Path.{_≡_, ap, sym, _∙_, subst}
 use mathlib.Core.Logic.{⊎-elim}
 use native.Mathlib.Omega.{arith}
@@ -68,15 +68,20 @@ loop-less c = search needs
 loop-again : tie.Need-loop-again Inv-loop μ-loop
 loop-again c =
     let m = c .before in
-    let inv = m .before .loop .inv in
-    let pre = m .before .before .before .before .before .before .pre in
+    let l = m .before .loop in
+    let inv = l .inv in
+    let o = m .before .before .before .before .before .before in
+    let pre = o .pre in
+    let es = values (run (elementsFrom (o .args .n) (o .args .start)) (o .args .b .now)) in
     let more = m .loop-test .taken in
     let place = kind-place _ _ _ _ (inv .4) (inv .0) (omega arith) in (
       omega arith,
       omega arith,
       ⊎-elim (λ w. subst small (sym (w .3 ∙ w .2 .ensures)) (capped-small _)) (λ w. subst small (sym (w .1)) (inv .2)) (c .if1 .came),
       inv .3
-          ∙ ⊎-elim (λ w. count-here _ _ _ _ (pre .1) _ place _ _ more (w .0 .taken) _ (w .1 .ensures) _ (w .3 ∙ w .2 .ensures))
+          ∙ ⊎-elim
+          {C = cappedWritten (writtenAll (l .w) (keptFrom es (l .left) (l .kind))) ≡ cappedWritten (writtenAll (c .if1 .w) (keptFrom es (l .left - 1) (l .kind + 1)))}
+          (λ w. count-here _ _ _ _ (pre .1) _ place _ _ more (w .0 .taken) _ (w .1 .ensures) _ (w .3 ∙ w .2 .ensures))
           (λ w. count-nowhere _ _ _ _ (pre .1) _ place _ _ more (omega arith) (w .0 .left) _ (w .1))
           (c .if1 .came),
       inv .4,
