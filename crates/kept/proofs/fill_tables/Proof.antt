@@ -65,8 +65,9 @@ loop-again c =
     let o = m .before .before .before .before .before .before .before in
     let most : l .kind ≤ 8 = omega (arith, m .loop-test .taken, i .0) in
     let place = kind-place _ _ _ _ (i .4) (i .0 .0) most in
-    let x : Put (values (run (elementsFrom (o .args .n) (o .args .start)) (o .args .b .now))) (o .args .list) (l .kind) (l .w) (c .if1 .w) (l .area) (c .if1 .area) =
+    let x =
     ⊎-elim
+    {C = Put (values (run (elementsFrom (o .args .n) (o .args .start)) (o .args .b .now))) (o .args .list) (l .kind) (l .w) (c .if1 .w) (l .area) (c .if1 .area)}
     (λ t. put-here _ _ _ _ _ (o .pre .1 .0) _ place (o .pre .0 .1) _ _ _ _ (t .6 ∙ t .2 .ensures .0) (t .5 ∙ t .2 .ensures .1))
     (λ t. put-none _ _ _ _ _ (o .pre .1 .0) _ place (o .pre .0 .1) _ _ _ _ (o .pre .1 .1 .0 .0) (o .pre .1 .1 .0 .1) (sym (e .has-any .ensures) ∙ t .0 .left) (t .2) (t .1))
     (c .if1 .came) in (
