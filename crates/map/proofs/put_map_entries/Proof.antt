@@ -63,8 +63,9 @@ put-entries-requires c κs =
     let l = c .before .before .before in
     let m = l .before .before in
     let h = m .before .loop-test .taken in
+    let i = m .before .before .before .before .before .pre .0 .0 in
     let f = sym (l .m .given .1) ∙ m .listed-at .ensures in
-    (next-inside _ _ _ _ _ _ h (omega arith) _ f, omega (arith, next-count _ _ _ _ _ _ h (omega arith) _ f (m .before .before .loop .inv .3)))
+    (next-inside _ _ _ _ _ _ h i _ f, omega (arith, next-count _ _ _ _ _ _ h i _ f (m .before .before .loop .inv .3)))
 
 cast-to : tie.Need-cast-to Inv-loop μ-loop
 cast-to c = search needs
@@ -98,12 +99,13 @@ loop-again c =
     let m = l .before .before in
     let inv = m .before .before .loop .inv in
     let h = m .before .loop-test .taken in
+    let i = m .before .before .before .before .before .pre .0 .0 in
     let f = sym (l .m .given .1) ∙ m .listed-at .ensures in (
       omega arith,
-      omega (arith, p .put-entries .kept .1 .1 .1 .0, next-count _ _ _ _ _ _ h (omega arith) _ f (inv .3)),
+      omega (arith, p .put-entries .kept .1 .1 .1 .0, next-count _ _ _ _ _ _ h i _ f (inv .3)),
       p .put-entries .kept .1 .1 .1 .0 ∙ inv .2,
-      next-fine _ _ _ _ _ _ h (omega arith) _ f (inv .3),
-      inv .4 ∙ next-entries _ _ _ _ _ _ h (omega arith) _ f (inv .3) _ _ _ (p .put-entries .ensures),
+      next-fine _ _ _ _ _ _ h i _ f (inv .3),
+      inv .4 ∙ next-entries _ _ _ _ _ _ h i _ f (inv .3) _ _ _ (p .put-entries .ensures),
     )
 
 same-length-2 : tie.Need-same-length-2 Inv-loop μ-loop

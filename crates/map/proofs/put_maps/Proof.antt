@@ -88,13 +88,14 @@ loop-again c =
     let m = l .before .before in
     let inv = m .before .before .loop .inv in
     let h = m .before .loop-test .taken in
+    let i = m .before .before .before .before .before .pre .0 .0 in
     let f = sym (l .m .given .1) ∙ m .listed-at .ensures in (
       omega arith,
       omega (arith, p .put-map .kept .0),
       p .put-map .kept .0 ∙ inv .2,
-      next-fine _ _ _ _ _ _ h (omega arith) _ f (inv .3),
-      omega (arith, next-count _ _ _ _ _ _ h (omega arith) _ f (inv .3)),
-      inv .5 ∙ next-maps _ _ _ _ _ _ h (omega arith) _ f (inv .3) _ _ _ _ (p .put-map .ensures),
+      next-fine _ _ _ _ _ _ h i _ f (inv .3),
+      omega (arith, next-count _ _ _ _ _ _ h i _ f (inv .3)),
+      inv .5 ∙ next-maps _ _ _ _ _ _ h i _ f (inv .3) _ _ _ _ (p .put-map .ensures),
     )
 
 same-length-2 : tie.Need-same-length-2 Inv-loop μ-loop
