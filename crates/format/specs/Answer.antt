@@ -2,27 +2,18 @@
 -- "Order: 7, 8, then the first of 1 to 6 in reading order, then 9 for the lowest-numbered list needing more entries than its capacity,
 -- given exactly when the definition accepts and there is one. A refusal touches no lent word; on 0 the needed entries are written, all
 -- other words kept." (the answer)
-use Prim.Native.Nat.{ℕ, suc, _+_, _*_, min}
+use Prim.Native.Nat.{ℕ, _+_, _*_, min}
 use mathlib.Core.Bool.{Bool, true, _&&_}
-use mathlib.Core.List.{List, [], _∷_}
-use lib.ListN.{length, getD}
+use mathlib.Core.List.{List, [], _∷_, map}
+use lib.ListN.{length}
 use lib.Dec.{leb}
 use Rattle.blob.specs.declared.Refusal.{Refusal}
 use Rattle.blob.specs.Reading.{Outcome, done, refused, choose, then}
 use Rattle.blob.specs.Laid.{laid, flat}
+use Rattle.format.specs.Area.{Row, rows, none}
 use Rattle.format.specs.Lists.{Entry, lists}
 use Rattle.format.specs.Crim.{Crim, crim}
-use Rattle.format.specs.declared.Counts.{Counts}
 use Rattle.format.specs.declared.Answer.{Answer}
-
--- the words of an entry of each list, in list order
-abbrev pub widths : List ℕ
-widths = 9 ∷ 3 ∷ 1 ∷ 9 ∷ 12 ∷ 16 ∷ 11 ∷ 2 ∷ 12 ∷ 4 ∷ []
-
--- the ten numbers, in list order
-abbrev pub ten : Counts → List ℕ
-ten c =
-    c .providers ∷ c .descriptors ∷ c .unknown2 ∷ c .tables ∷ c .definitions ∷ c .events ∷ c .maps ∷ c .entries ∷ c .templates ∷ c .unknown ∷ []
 
 -- "7 | lent bytes over 16,777,216 | 0; 0, 0", and so 8 and 10. "Codes 7 to 10 are the port's own."
 abbrev pub own : ℕ → Refusal
@@ -37,46 +28,35 @@ unfoldable pub moderate : List ℕ → Bool
 moderate [] = true
 moderate (c ∷ cs) = leb c 65536 && moderate cs
 
--- the words of areas of so many entries, of so many words each
-unfoldable pub areas : List ℕ → List ℕ → ℕ
-areas [] ws = 0
-areas (c ∷ cs) [] = 0
-areas (c ∷ cs) (w ∷ ws) = c * w + areas cs ws
+-- the words of areas of so many entries each
+unfoldable pub areas : List Row → List ℕ → ℕ
+areas rs [] = 0
+areas [] (c ∷ cs) = 0
+areas (r ∷ rs) (c ∷ cs) = c * r .words + areas rs cs
 
 -- "8 | a capacity over 65,536, or lent words fewer than the areas need"
-abbrev pub lent-enough : Counts → List ℕ → Bool
-lent-enough capacities words = moderate (ten capacities) && leb (areas (ten capacities) widths) (length words)
+abbrev pub lent-enough : List ℕ → List ℕ → Bool
+lent-enough capacities words = moderate capacities && leb (areas rows capacities) (length words)
 
--- a value where each list, from a number on, has room for its entries; else 9 for the first that has not
-unfoldable pub with-room : {A : Type 0} → ℕ → List ℕ → List (List Entry) → A → Outcome A
-with-room n [] ls a = done a
-with-room n (c ∷ cs) [] a = done a
-with-room n (c ∷ cs) (l ∷ ls) a = choose (leb (length l) c) (with-room (suc n) cs ls a) (refused (too-small n c))
+-- a value where each list has room for its entries; else 9 for the first that has not
+unfoldable pub with-room : {A : Type 0} → List Row → List ℕ → List (List Entry) → A → Outcome A
+with-room [] cs ls a = done a
+with-room (r ∷ rs) [] ls a = done a
+with-room (r ∷ rs) (c ∷ cs) [] a = done a
+with-room (r ∷ rs) (c ∷ cs) (l ∷ ls) a = choose (leb (length l) c) (with-room rs cs ls a) (refused (too-small (r .number) c))
 
--- what is read of lent bytes, with lent words and ten capacities
-unfoldable pub reading : List ℕ → List ℕ → Counts → Outcome Crim
+-- what is read of lent bytes, with lent words and a capacity for each list
+unfoldable pub reading : List ℕ → List ℕ → List ℕ → Outcome Crim
 reading bytes words capacities =
     choose (leb (length bytes) 16777216)
     (choose (lent-enough capacities words)
-    (then (crim bytes) (λ c. with-room 1 (ten capacities) (lists (c .providers)) c))
+    (then (crim bytes) (λ c. with-room rows capacities (lists (c .providers)) c))
     (refused (own 8)))
     (refused (own 7))
 
 -- "ten entry counts": the lists' lengths
-abbrev pub counted : List (List Entry) → Counts
-counted ls =
-    record {
-      providers = length (getD ls 0 []);
-      descriptors = length (getD ls 1 []);
-      unknown2 = length (getD ls 2 []);
-      tables = length (getD ls 3 []);
-      definitions = length (getD ls 4 []);
-      events = length (getD ls 5 []);
-      maps = length (getD ls 6 []);
-      entries = length (getD ls 7 []);
-      templates = length (getD ls 8 []);
-      unknown = length (getD ls 9 []);
-    }
+abbrev pub counted : List (List Entry) → List ℕ
+counted ls = map (λ l. length l) ls
 
 -- "One code, a field code, a place, two 64-bit numbers, and ten entry counts (zero on a refusal)"; "0 | accepted | 0; CRIM.size,
 -- major + 65,536 × minor"
@@ -91,7 +71,7 @@ answer (done c) =
       counts = counted (lists (c .providers));
     }
 answer (refused r) =
-    record { code = r .code; field = r .field; place = r .place; first = r .first; second = r .second; counts = counted [] }
+    record { code = r .code; field = r .field; place = r .place; first = r .first; second = r .second; counts = none }
 
 -- what is read of lent bytes, whatever is lent for the lists
 unfoldable pub block : List ℕ → Outcome Crim
@@ -100,21 +80,6 @@ block bytes = choose (leb (length bytes) 16777216) (crim bytes) (refused (own 7)
 -- "a number stops rising at 65,537" (what each list needs): no capacity is over 65,536, so no more is ever asked
 abbrev pub capped : ℕ → ℕ
 capped n = min n 65537
-
-abbrev pub cappedCounts : Counts → Counts
-cappedCounts c =
-    record {
-      providers = capped (c .providers);
-      descriptors = capped (c .descriptors);
-      unknown2 = capped (c .unknown2);
-      tables = capped (c .tables);
-      definitions = capped (c .definitions);
-      events = capped (c .events);
-      maps = capped (c .maps);
-      entries = capped (c .entries);
-      templates = capped (c .templates);
-      unknown = capped (c .unknown);
-    }
 
 -- the answer that tells what each list needs: its counts stop rising, and all else is as `answer` says
 unfoldable pub needing : Outcome Crim → Answer
@@ -125,18 +90,18 @@ needing o =
       place = answer o .place;
       first = answer o .first;
       second = answer o .second;
-      counts = cappedCounts (answer o .counts);
+      counts = map capped (answer o .counts);
     }
 
 -- "One lent run of 32-bit words holds ten areas, each starting where the one before ends, in this order" (the lists): the words, with
 -- each list's entries laid from its area's start on
-unfoldable pub filled : List ℕ → ℕ → List ℕ → List ℕ → List (List Entry) → List ℕ
-filled words at cs ws [] = words
-filled words at [] ws (l ∷ ls) = words
-filled words at (c ∷ cs) [] (l ∷ ls) = words
-filled words at (c ∷ cs) (w ∷ ws) (l ∷ ls) = filled (laid words at (flat (λ e. e) l)) (at + c * w) cs ws ls
+unfoldable pub filled : List ℕ → ℕ → List Row → List ℕ → List (List Entry) → List ℕ
+filled words at [] cs ls = words
+filled words at (r ∷ rs) [] ls = words
+filled words at (r ∷ rs) (c ∷ cs) [] = words
+filled words at (r ∷ rs) (c ∷ cs) (l ∷ ls) = filled (laid words at (flat (λ e. e) l)) (at + c * r .words) rs cs ls
 
 -- what the lent words hold after a reading
-unfoldable pub held : List ℕ → Counts → Outcome Crim → List ℕ
-held words capacities (done c) = filled words 0 (ten capacities) widths (lists (c .providers))
+unfoldable pub held : List ℕ → List ℕ → Outcome Crim → List ℕ
+held words capacities (done c) = filled words 0 rows capacities (lists (c .providers))
 held words capacities (refused r) = words

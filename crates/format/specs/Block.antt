@@ -17,11 +17,11 @@ use Rattle.blob.specs.Reading.{done, demand, run, places, then}
 use Rattle.blob.specs.Laws.{run-number, then-done, choose-done}
 use Rattle.blob.specs.Longer.{Agree, longer}
 use Rattle.format.specs.Crim.{CRIM, Crim, header, providersOf, crim}
+use Rattle.format.specs.Area.{Row, rows}
 use Rattle.format.specs.Lists.{Entry, lists}
-use Rattle.format.specs.Answer.{ten, widths, moderate, areas, lent-enough, with-room, reading, counted, answer, filled, held}
+use Rattle.format.specs.Answer.{moderate, areas, lent-enough, with-room, reading, counted, answer, filled, held}
 use Rattle.format.specs.Rests.{providersBytes, restsOn}
 use Rattle.format.specs.Rested.{Headed, Read, crim-read, asked, headed, n-bytes}
-use Rattle.format.specs.declared.Counts.{Counts}
 
 -- bytes 4 to 7, which hold CRIM.size
 abbrev pub SizeByte : ℕ → Type 0
@@ -49,10 +49,10 @@ Within [] (l ∷ ls) = Unit {0}
 Within (c ∷ cs) (l ∷ ls) = (length l ≤ c) × Within cs ls
 
 -- lent words and capacities with room for some lists
-pub record Room (words : List ℕ) (capacities : Counts) (ls : List (List Entry)) : Type 0 where
-  pub moderate : Each (λ c. c ≤ 65536) (ten capacities)
-  pub enough : areas (ten capacities) widths ≤ length words
-  pub within : Within (ten capacities) ls
+pub record Room (words : List ℕ) (capacities : List ℕ) (ls : List (List Entry)) : Type 0 where
+  pub moderate : Each (λ c. c ≤ 65536) capacities
+  pub enough : areas rows capacities ≤ length words
+  pub within : Within capacities ls
 
 header-run : (s : List ℕ) → le 4 s 0 ≡ CRIM → 16 ≤ le 4 s 4 → le 4 s 4 ≤ length s
     → run header s ≡ done (record { size = le 4 s 4; major = le 2 s 8; minor = le 2 s 10; count = le 4 s 12 })
@@ -61,18 +61,19 @@ header-run s sig least fits =
     simp (run-number, le-leb 4 (length s) (omega arith), le-leb 8 (length s) (omega arith), le-leb 10 (length s) (omega arith), le-leb 12 (length s) (omega arith), le-leb 16 (length s) (omega arith), eq-eqb (le 4 s 0) CRIM sig, le-leb 16 (le 4 s 4) least, le-leb (le 4 s 4) (length s) fits)
 
 -- 9 changes nothing else
-with-room-same : {A : Type 0} (n : ℕ) (cs : List ℕ) (ls : List (List Entry)) (a b : A) → with-room n cs ls a ≡ done b → done a ≡ done b
+with-room-same : {A : Type 0} (rs : List Row) (cs : List ℕ) (ls : List (List Entry)) (a b : A) → with-room rs cs ls a ≡ done b → done a ≡ done b
 unfolding with-room
-with-room-same n [] ls a b e = e
-with-room-same n (c ∷ cs) [] a b e = e
-with-room-same n (c ∷ cs) (l ∷ ls) a b e = with-room-same (suc n) cs ls a b (choose-done (leb (length l) c) _ _ b e .1)
+with-room-same [] cs ls a b e = e
+with-room-same (r ∷ rs) [] ls a b e = e
+with-room-same (r ∷ rs) (c ∷ cs) [] a b e = e
+with-room-same (r ∷ rs) (c ∷ cs) (l ∷ ls) a b e = with-room-same rs cs ls a b (choose-done (leb (length l) c) _ _ b e .1)
 
-with-room-fits : {A : Type 0} (n : ℕ) (cs : List ℕ) (ls : List (List Entry)) (a : A) → Within cs ls → with-room n cs ls a ≡ done a
+with-room-fits : {A : Type 0} (rs : List Row) (cs : List ℕ) (ls : List (List Entry)) (a : A) → Within cs ls → with-room rs cs ls a ≡ done a
 unfolding with-room
-with-room-fits n [] [] a w = refl
-with-room-fits n [] (l ∷ ls) a w = refl
-with-room-fits n (c ∷ cs) [] a w = refl
-with-room-fits n (c ∷ cs) (l ∷ ls) a w = rw (le-leb (length l) c (w .0)) (with-room-fits (suc n) cs ls a (w .1))
+with-room-fits [] cs ls a w = refl
+with-room-fits (r ∷ rs) [] ls a w = refl
+with-room-fits (r ∷ rs) (c ∷ cs) [] a w = refl
+with-room-fits (r ∷ rs) (c ∷ cs) (l ∷ ls) a w = rw (le-leb (length l) c (w .0)) (with-room-fits rs cs ls a (w .1))
 
 moderate-each : (cs : List ℕ) → Each (λ c. c ≤ 65536) cs → moderate cs ≡ true
 unfolding moderate
@@ -80,12 +81,12 @@ moderate-each [] h = refl
 moderate-each (c ∷ cs) h = rw (le-leb c 65536 (h .0)) (moderate-each cs (h .1))
 
 -- an accepted reading read its bytes as a CRIM block
-pub reading-crim : (s words : List ℕ) (capacities : Counts) (c : Crim) → reading s words capacities ≡ done c → crim s ≡ done c
+pub reading-crim : (s words : List ℕ) (capacities : List ℕ) (c : Crim) → reading s words capacities ≡ done c → crim s ≡ done c
 unfolding reading
 reading-crim s words capacities c e =
     let o = choose-done (leb (length s) 16777216) _ _ c e .1 in
     let h = then-done _ _ c (choose-done (lent-enough capacities words) _ _ c o .1) in
-    h .1 ∙ with-room-same _ _ _ _ c (h .2)
+    h .1 ∙ with-room-same rows capacities _ _ c (h .2)
 
 -- bytes of a list, and of a number
 byte-at : (s : List ℕ) (p : ℕ) → Each (λ b. b < 256) s → getD s p 0 < 256
@@ -194,22 +195,22 @@ module _ (first second : List ℕ) (c : Crim) (read : Read first c) (l : Longer 
   second-crim = simp (second-headed, second-provided)
 
 -- the demand, whole
-pub longer-block : (first words : List ℕ) (capacities : Counts) (c : Crim) → reading first words capacities ≡ done c
-    → (second words' : List ℕ) (capacities' : Counts) → Longer first second c → Room words' capacities' (lists (c .providers))
+pub longer-block : (first words : List ℕ) (capacities : List ℕ) (c : Crim) → reading first words capacities ≡ done c
+    → (second words' : List ℕ) (capacities' : List ℕ) → Longer first second c → Room words' capacities' (lists (c .providers))
     → (c' : Crim) × (reading second words' capacities' ≡ done c') × (lists (c' .providers) ≡ lists (c .providers))
 unfolding reading then
 longer-block first words capacities c e second words' capacities' l r =
     let read = crim-read first c (reading-crim first words capacities c e) in
-    (resized second c, simp (le-leb (length second) 16777216 (l .at-most), moderate-each (ten capacities') (r .moderate), le-leb (areas (ten capacities') widths) (length words') (r .enough), second-crim first second c read l, with-room-fits 1 (ten capacities') (lists (c .providers)) (resized second c) (r .within)), refl)
+    (resized second c, simp (le-leb (length second) 16777216 (l .at-most), moderate-each capacities' (r .moderate), le-leb (areas rows capacities') (length words') (r .enough), second-crim first second c read l, with-room-fits rows capacities' (lists (c .providers)) (resized second c) (r .within)), refl)
 
--- the same in the terms of a reading's contract: the same ten counts are answered, and the lent words hold the same ten lists
-pub longer-read : (first words : List ℕ) (capacities : Counts) (c : Crim) → reading first words capacities ≡ done c
-    → (second words' : List ℕ) (capacities' : Counts) → Longer first second c → Room words' capacities' (lists (c .providers))
+-- the same in the terms of a reading's contract: the same counts are answered, and the lent words hold the same lists
+pub longer-read : (first words : List ℕ) (capacities : List ℕ) (c : Crim) → reading first words capacities ≡ done c
+    → (second words' : List ℕ) (capacities' : List ℕ) → Longer first second c → Room words' capacities' (lists (c .providers))
     → (answer (reading second words' capacities') .code ≡ 0)
     × (answer (reading second words' capacities') .counts ≡ answer (reading first words capacities) .counts)
-    × (held words capacities (reading first words capacities) ≡ filled words 0 (ten capacities) widths (lists (c .providers)))
-    × (held words' capacities' (reading second words' capacities') ≡ filled words' 0 (ten capacities') widths (lists (c .providers)))
+    × (held words capacities (reading first words capacities) ≡ filled words 0 rows capacities (lists (c .providers)))
+    × (held words' capacities' (reading second words' capacities') ≡ filled words' 0 rows capacities' (lists (c .providers)))
 unfolding answer held
 longer-read first words capacities c e second words' capacities' l r =
     let x = longer-block first words capacities c e second words' capacities' l r in
-    rw (e, x .1) (refl, ap counted (x .2), refl, ap (filled words' 0 (ten capacities') widths) (x .2))
+    rw (e, x .1) (refl, ap counted (x .2), refl, ap (filled words' 0 rows capacities') (x .2))

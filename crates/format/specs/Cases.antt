@@ -1,4 +1,4 @@
--- The proved cases: one table, computed under one claim. A row has the bytes, the whole answer and the words of all ten lists.
+-- The proved cases: one table, computed under one claim. A row has the bytes, the whole answer and the words of all lists.
 -- "Cases (P: proved together)".
 use Prim.Native.Nat.{ℕ, _/_, _%_}
 use mathlib.Core.Path.{_≡_, refl}
@@ -15,10 +15,10 @@ use Rattle.format.specs.Template.{TEMP, itemsAt, templateAt, templatesAt
 use Rattle.format.specs.Map.{mapsAt}
 use Rattle.format.specs.Provider.{WEVT, eventsAt, tableAt, unknownAt, elementOf, elementAt, descriptorAt, wevtAt, providerAt}
 use Rattle.format.specs.Crim.{CRIM, Crim, header, describedAt, providersOf, crim}
+use Rattle.format.specs.Area.{rows, none}
 use Rattle.format.specs.Lists.{lastOf, unknowns, ownedTables, ownedUnknowns, tableEntries, mapList, lists}
-use Rattle.format.specs.Answer.{ten, widths, moderate, areas, with-room, reading, counted, answer}
+use Rattle.format.specs.Answer.{moderate, areas, with-room, reading, answer}
 use Rattle.format.specs.Listing.{says, number as numeral, listing}
-use Rattle.format.specs.declared.Counts.{Counts}
 use Rattle.format.specs.declared.Answer.{Answer}
 
 -- a word's four bytes
@@ -40,16 +40,12 @@ T ttbl temp names items =
     ∷ TEMP ∷ temp ∷ 0 ∷ names ∷ items ∷ 0 ∷ 0 ∷ 0 ∷ 0 ∷ 0 ∷ [])
 
 -- one entry of each list, and words for them
-abbrev pub one-each : Counts
-one-each =
-    record { providers = 1; descriptors = 1; unknown2 = 1; tables = 1; definitions = 1; events = 1; maps = 1; entries = 1; templates = 1; unknown = 1 }
+abbrev pub one-each : List ℕ
+one-each = map (λ r. 1) rows
 
 pub record Row : Type 0 where
   pub answer : Answer
   pub lists : List (List ℕ)
-
-abbrev none : Counts
-none = counted []
 
 -- a refusal: no counts, no lists
 abbrev refusal : (code field place first second : ℕ) → Row
@@ -68,7 +64,7 @@ unfolding demand run then _>>=_ number many each le laid flat nameAt inside boun
     itemsAt templateAt templatesAt mapsAt eventsAt tableAt unknownAt elementOf elementAt descriptorAt wevtAt providerAt header describedAt providersOf crim
     lastOf unknowns ownedTables ownedUnknowns tableEntries mapList lists moderate areas with-room reading answer
 found bytes =
-    rowOf (reading bytes (replicate (areas (ten one-each) widths) 0) one-each)
+    rowOf (reading bytes (replicate (areas rows one-each) 0) one-each)
 
 pub record Case : Type 0 where
   pub bytes : List ℕ
@@ -100,7 +96,7 @@ table =
     empty =
         record {
           answer = record { code = 0; field = 0; place = 0; first = 16; second = 0; counts = none };
-          lists = replicate 10 [];
+          lists = map (λ r. []) rows;
         }
 
     whole : Row
@@ -113,8 +109,7 @@ table =
                 place = 0;
                 first = 116;
                 second = 0;
-                counts =
-                    record { providers = 1; descriptors = 1; unknown2 = 0; tables = 1; definitions = 0; events = 0; maps = 0; entries = 0; templates = 1; unknown = 0 };
+                counts = 1 ∷ 1 ∷ 0 ∷ 1 ∷ 0 ∷ 0 ∷ 0 ∷ 0 ∷ 1 ∷ 0 ∷ [];
               };
           lists =
               (0 ∷ 0 ∷ 0 ∷ 0 ∷ 36 ∷ 80 ∷ 0 ∷ 1 ∷ 0 ∷ [])

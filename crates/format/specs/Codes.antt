@@ -18,13 +18,13 @@ use Rattle.format.specs.Template.{itemsAt, templateAt, templatesAt}
 use Rattle.format.specs.Map.{VMAP, entryAt, valueMapAt, mapAt, mapsAt}
 use Rattle.format.specs.Provider.{eventsAt, tableAt, unknownAt, elementOf, elementAt, descriptorAt, wevtAt, providerAt}
 use Rattle.format.specs.Crim.{header, describedAt, providersOf, crim}
+use Rattle.format.specs.Area.{Row, rows}
 use Rattle.format.specs.Lists.{Entry}
 use Rattle.format.specs.Answer.{lent-enough, with-room, reading}
 use Rattle.format.specs.declared.Header.{Header}
 use Rattle.format.specs.declared.Guid.{Guid}
 use Rattle.format.specs.declared.Descriptor.{Descriptor}
 use Rattle.format.specs.declared.CrimHeader.{CrimHeader}
-use Rattle.format.specs.declared.Counts.{Counts}
 use Rattle.format.specs.declared.Items.{Items}
 use Rattle.format.specs.declared.Items.the-variants as items
 
@@ -234,15 +234,16 @@ coded-crim =
     coded-room (λ n. some) (coded-next 2 8 (λ major. coded-room (λ n. some) (coded-next 2 10 (λ minor. coded-room (λ n. some) (coded-next 4 12 (λ count.
     coded-demand _ _ (λ n. some) (coded-room (λ n. some) coded-got))))))))))))
 
-told-room : {A : Type 0} (n : ℕ) (cs : List ℕ) (ls : List (List Entry)) (a : A) → Told (with-room n cs ls a)
+told-room : {A : Type 0} (rs : List Row) (cs : List ℕ) (ls : List (List Entry)) (a : A) → Told (with-room rs cs ls a)
 unfolding with-room
-told-room n [] ls a = told-done a
-told-room n (c ∷ cs) [] a = told-done a
-told-room n (c ∷ cs) (l ∷ ls) a = told-choose (leb (length l) c) (told-room (suc n) cs ls a) (told-refused _ some)
+told-room [] cs ls a = told-done a
+told-room (r ∷ rs) [] ls a = told-done a
+told-room (r ∷ rs) (c ∷ cs) [] a = told-done a
+told-room (r ∷ rs) (c ∷ cs) (l ∷ ls) a = told-choose (leb (length l) c) (told-room rs cs ls a) (told-refused _ some)
 
-pub refused-code : (bytes words : List ℕ) (capacities : Counts) → Told (reading bytes words capacities)
+pub refused-code : (bytes words : List ℕ) (capacities : List ℕ) → Told (reading bytes words capacities)
 unfolding reading crim
 refused-code bytes words capacities =
     told-choose (leb (length bytes) 16777216) (told-choose (lent-enough capacities words)
-    (told-then _ _ (told-then _ _ (coded-crim .told bytes) (λ h. told-then _ _ (coded-providers h .told _) (λ ps. told-done _))) (λ c. told-room 1 _ _ c))
+    (told-then _ _ (told-then _ _ (coded-crim .told bytes) (λ h. told-then _ _ (coded-providers h .told _) (λ ps. told-done _))) (λ c. told-room rows _ _ c))
     (told-refused _ some)) (told-refused _ some)

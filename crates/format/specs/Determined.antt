@@ -3,35 +3,35 @@
 use Prim.Native.Nat.{ℕ}
 use mathlib.Core.Path.{_≡_, refl, sym, _∙_}
 use mathlib.Core.List.{List, map}
-use lib.ListN.{length, replicate}
+use lib.ListN.{length}
 use Rattle.blob.specs.declared.Refusal.{Refusal}
 use Rattle.blob.specs.Reading.{done, refused}
 use Rattle.format.specs.Crim.{Crim}
+use Rattle.format.specs.Area.{none}
 use Rattle.format.specs.Lists.{lists}
-use Rattle.format.specs.Answer.{ten, reading, answer, needing, held}
-use Rattle.format.specs.declared.Counts.{Counts}
+use Rattle.format.specs.Answer.{reading, answer, needing, held}
 use Rattle.format.specs.declared.Answer.{Answer}
 
 -- what the contract of a reading allows: this answer, and these words after it
-pub record Allowed (bytes words : List ℕ) (capacities : Counts) (a : Answer) (after : List ℕ) : Type 0 where
+pub record Allowed (bytes words : List ℕ) (capacities : List ℕ) (a : Answer) (after : List ℕ) : Type 0 where
   pub answered : a ≡ answer (reading bytes words capacities)
   pub kept : after ≡ held words capacities (reading bytes words capacities)
 
-pub determined : (bytes words : List ℕ) (capacities : Counts) (a b : Answer) (after after' : List ℕ)
+pub determined : (bytes words : List ℕ) (capacities : List ℕ) (a b : Answer) (after after' : List ℕ)
     → Allowed bytes words capacities a after → Allowed bytes words capacities b after' → (a ≡ b) × (after ≡ after')
 determined bytes words capacities a b after after' h g = (h .answered ∙ sym (g .answered), h .kept ∙ sym (g .kept))
 
--- the ten counts of an accepted blob are the lengths of its ten lists
-pub counts-are-lengths : (c : Crim) → ten (answer (done c) .counts) ≡ map (λ l. length l) (lists (c .providers))
-unfolding answer lists
+-- the counts of an accepted blob are the lengths of its lists
+pub counts-are-lengths : (c : Crim) → answer (done c) .counts ≡ map (λ l. length l) (lists (c .providers))
+unfolding answer
 counts-are-lengths c = refl
 
 -- a refusal's are zero, and it keeps the lent words
-pub refusal-counts-zero : (r : Refusal) → ten (answer (refused r) .counts) ≡ replicate 10 0
+pub refusal-counts-zero : (r : Refusal) → answer (refused r) .counts ≡ none
 unfolding answer
 refusal-counts-zero r = refl
 
-pub refusal-keeps : (words : List ℕ) (capacities : Counts) (r : Refusal) → held words capacities (refused r) ≡ words
+pub refusal-keeps : (words : List ℕ) (capacities : List ℕ) (r : Refusal) → held words capacities (refused r) ≡ words
 unfolding held
 refusal-keeps words capacities r = refl
 

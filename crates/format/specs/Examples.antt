@@ -8,22 +8,22 @@ use Rattle.blob.specs.Reading.{Outcome, done, refused}
 use Rattle.blob.specs.Laid.{laid, flat}
 use Rattle.format.specs.Table.{CHAN, LEVL}
 use Rattle.format.specs.Provider.{definitions, templates, Element, table, unknown}
+use Rattle.format.specs.Area.{MAPS, rows, more}
 use Rattle.format.specs.Lists.{Entry, lastOf, kept}
 use Rattle.format.specs.Answer.{areas, filled, moderate, own, too-small, with-room}
 use Rattle.format.specs.Lookup.{alike, among, byKey, byOffset, counts-fit, entriesFrom, guidsHeld, guidsOf, once, position, select, tableFits, tablesFit}
 use Rattle.format.specs.Handle.{shown}
-use Rattle.format.specs.declared.Counts.{Counts}
 use Rattle.format.specs.declared.Key.{Key}
 use Rattle.format.specs.declared.TemplateFound.the-variants as template
 
 -- two areas one after another: the entries at each area's start, all other words kept
-areas-in-a-row : filled (replicate 9 7) 0 (2 ∷ 2 ∷ []) (2 ∷ 1 ∷ []) (((1 ∷ 2 ∷ []) ∷ []) ∷ ((3 ∷ []) ∷ (4 ∷ []) ∷ []) ∷ [])
+areas-in-a-row : filled (replicate 9 7) 0 (record { number = 5; words = 2 } ∷ record { number = 9; words = 1 } ∷ []) (2 ∷ 2 ∷ []) (((1 ∷ 2 ∷ []) ∷ []) ∷ ((3 ∷ []) ∷ (4 ∷ []) ∷ []) ∷ [])
     ≡ 1 ∷ 2 ∷ 7 ∷ 7 ∷ 3 ∷ 4 ∷ 7 ∷ 7 ∷ 7 ∷ []
 unfolding filled laid flat
 areas-in-a-row = refl
 
--- 9 for the lowest-numbered list that is too small, counted from 1
-second-too-small : with-room {A = ℕ} 1 (1 ∷ 0 ∷ 0 ∷ []) (([] ∷ []) ∷ ([] ∷ []) ∷ ([] ∷ []) ∷ []) 5 ≡ refused (too-small 2 0)
+-- 9 for the lowest-numbered list that is too small
+second-too-small : with-room {A = ℕ} rows (1 ∷ 0 ∷ 0 ∷ []) (([] ∷ []) ∷ ([] ∷ []) ∷ ([] ∷ []) ∷ []) 5 ≡ refused (too-small 2 0)
 unfolding with-room
 second-too-small = refl
 
@@ -40,8 +40,8 @@ last-kept = refl
 
 -- one provider with GUID 1 2 3 4, an EVNT and a TTBL; three events with one key, of which the last two have a template; three templates,
 -- two of them at 76
-abbrev some : Counts
-some = record { providers = 1; descriptors = 0; unknown2 = 0; tables = 2; definitions = 0; events = 3; maps = 0; entries = 0; templates = 3; unknown = 0 }
+abbrev some : List ℕ
+some = 1 ∷ 0 ∷ 0 ∷ 2 ∷ 0 ∷ 3 ∷ 0 ∷ 0 ∷ 3 ∷ 0 ∷ []
 
 abbrev event : ℕ → List ℕ
 event at = 10 ∷ 1 ∷ 2 ∷ 3 ∷ 4 ∷ 5 ∷ 6 ∷ 7 ∷ 0 ∷ at ∷ replicate 6 0
@@ -59,8 +59,8 @@ words kind =
     ++ temp 50 5 ++ temp 76 8 ++ temp 76 9
 
 -- the same with a map, for which there is no room
-abbrev one-map : Counts
-one-map = record { providers = some .providers; descriptors = 0; unknown2 = 0; tables = some .tables; definitions = 0; events = some .events; maps = 1; entries = 0; templates = some .templates; unknown = 0 }
+abbrev one-map : List ℕ
+one-map = more MAPS 1 some
 
 abbrev key : ℕ → Key
 key version = record { guid = record { a = 1; b = 2; c = 3; d = 4 }; identifier = 10; version = version; channel = 2; level = 3; opcode = 4; task = 5; low = 6; high = 7 }

@@ -1,30 +1,30 @@
 -- Where the walk over all providers comes out, in the lists' numbers: so where each list has at most 65,536 entries, every number on the
 -- way is at most that, and the words stored are those of the list.
-use Prim.Native.Nat.{ℕ, suc, _+_, _-_, _*_, _≤_}
+use Prim.{tt}
+use Prim.Native.Nat.{ℕ, zero, suc, _+_, _*_, _≤_, _<_}
 use mathlib.Core.Path.{_≡_, refl, ap, sym, _∙_}
+use mathlib.Core.Bool.{Bool, true, false}
 use mathlib.Core.List.{List, [], _∷_, _++_, map}
-use native.Mathlib.Nat.{zero-add, mul-zero, mul-suc}
+use native.Mathlib.Nat.{zero-add, mul-zero, mul-suc, add-assoc, add-zero}
 use native.Mathlib.Omega.{arith}
-use borrow.Author.Needs.{needs}
+use borrow.Author.Tests.{eqb-true}
 use lib.Dec.{eqb}
 use lib.ListN.{length, getD, length-append}
-use Rattle.blob.specs.Reading.{choose}
+use Rattle.blob.specs.Places.{Each}
 use Rattle.blob.specs.Laid.{flat, flat-single, flat-flat}
+use Rattle.format.specs.Area.{TABLES, MAPS, rows, none}
 use Rattle.format.specs.Map.{Mapped}
 use Rattle.format.specs.Provider.{Rows, Table, Provider}
-use Rattle.format.specs.Lists.{Entry, providerWords, descriptorWords, unknown2Words, definitionWords, eventWords, mapEntryWords, templateWords, unknownWords, kept, unknowns, Owned, ownedTables, ownedUnknowns, none-written, written, tableEntries, definitionsIn, eventsIn, mapsIn, templatesIn, mapList, lists}
-use Rattle.format.specs.Needs.{writtenAll, entriesAll, none, needsAll}
-use Rattle.format.specs.Parts.{start, parts, passedAll}
-use Rattle.format.specs.Answer.{widths, counted, capped, cappedCounts}
-use Rattle.format.specs.Grows.{choose-either, passedAll-ahead, More, Grows}
-use Rattle.format.specs.Listed.{of-tables, entriesIn, itemized, lists-itemized, each-of-ten, listed}
-use Rattle.format.specs.Needed.{tables-written, entries-all, counted-numbers, needed}
-use Rattle.format.specs.declared.Written.{Written}
-use Rattle.format.specs.declared.Counts.{Counts}
-use Rattle.format.specs.declared.Walk.{Walk}
+use Rattle.format.specs.Lists.{Entry, providerWords, descriptorWords, unknown2Words, definitionWords, eventWords, mapEntryWords, templateWords, unknownWords, kept, unknowns, Owned, ownedTables, ownedUnknowns, after, tableEntries, definitionsIn, eventsIn, mapsIn, templatesIn, mapList, lists}
+use Rattle.format.specs.Answer.{counted, capped}
+use Rattle.format.specs.Needs.{afterAll, of-tables, entriesIn, has, needsAll}
+use Rattle.format.specs.Parts.{start, fits, behindAll, parts, passedAll}
+use Rattle.format.specs.Grows.{behindAll-same, passedAll-ahead}
+use Rattle.format.specs.Listed.{itemized, lists-itemized, First, first, number, listed}
+use Rattle.format.specs.Needed.{total, total-length, after-all, entries-count, counted-has, needed}
 
 -- entries of so many words each
-data Wide (k : ℕ) : List Entry → Type 0 where
+pub data Wide (k : ℕ) : List Entry → Type 0 where
   empty : Wide k []
   more : {e : Entry} {es : List Entry} → length e ≡ k → Wide k es → Wide k (e ∷ es)
 
@@ -41,10 +41,10 @@ wide-map : {B : Type 0} (k : ℕ) (words : B → Entry) → ((b : B) → length 
 wide-map k words h [] = empty
 wide-map k words h (x ∷ xs) = more (h x) (wide-map k words h xs)
 
-wide-tables : (w : Written) (os : List Owned) → Wide 9 (tableEntries w os)
+wide-tables : (w : List ℕ) (os : List Owned) → Wide 9 (tableEntries w os)
 unfolding tableEntries
 wide-tables w [] = empty
-wide-tables w (o ∷ os) = more refl (wide-tables (written w (o .table .rows)) os)
+wide-tables w (o ∷ os) = more refl (wide-tables (after w (o .table .rows)) os)
 
 wide-maps : (n : ℕ) (ms : List Mapped) → Wide 11 (mapList n ms)
 unfolding mapList
@@ -56,105 +56,106 @@ unfolding ownedUnknowns
 wide-unknowns n [] = empty
 wide-unknowns n (p ∷ ps) = wide-append (wide-map 4 (unknownWords n) (λ u. refl) (unknowns (p .elements))) (wide-unknowns (suc n) ps)
 
-pub lists-wide : (l : ℕ) → 1 ≤ l → l ≤ 10 → (ps : List Provider)
-    → length (flat (λ e. e) (getD (lists ps) (l - 1) [])) ≡ getD widths (l - 1) 0 * length (getD (lists ps) (l - 1) [])
-lists-wide l m n ps =
-    rw (lists-itemized ps) (wide-length (each-of-ten (λ l. Wide (getD widths (l - 1) 0) (getD (itemized ps) (l - 1) []))
-    (wide-map 9 providerWords (λ p. refl) (flat (λ p. p ∷ []) ps))
-    (wide-map 3 descriptorWords (λ d. refl) (flat (λ p. p .descriptors) ps))
-    (wide-map 1 unknown2Words (λ w. refl) (flat (λ p. p .unknown2) ps))
-    (wide-tables none-written (ownedTables 0 ps))
-    (wide-map 12 definitionWords (λ d. refl) (flat (of-tables definitionsIn) ps))
-    (wide-map 16 eventWords (λ e. refl) (flat (of-tables eventsIn) ps))
-    (wide-maps 0 (flat (of-tables mapsIn) ps))
-    (wide-map 2 mapEntryWords (λ e. refl) (flat (of-tables entriesIn) ps))
-    (wide-map 12 templateWords (λ t. refl) (flat (of-tables templatesIn) ps))
-    (wide-unknowns 0 ps)
-    l m n))
+-- the words of an entry, by its list's row
+abbrev pub words : ℕ → ℕ
+words i = getD (map (λ r. r .words) rows) i 0
 
-pub parts-wide : (l : ℕ) → 1 ≤ l → l ≤ 10 → (ps : List Provider) → length (parts l start ps) ≡ getD widths (l - 1) 0 * length (getD (lists ps) (l - 1) [])
-parts-wide l m n ps = ap length (sym (listed l m n ps)) ∙ lists-wide l m n ps
+pub lists-wide : (ps : List Provider) (i : ℕ) → i < length rows → Wide (words i) (getD (lists ps) i [])
+lists-wide ps =
+    rw (lists-itemized ps) (first (λ i. Wide (words i) (getD (itemized ps) i [])) (length rows) (
+    wide-map 9 providerWords (λ p. refl) (flat (λ p. p ∷ []) ps),
+    (wide-map 3 descriptorWords (λ d. refl) (flat (λ p. p .descriptors) ps),
+    (wide-map 1 unknown2Words (λ w. refl) (flat (λ p. p .unknown2) ps),
+    (wide-tables none (ownedTables 0 ps),
+    (wide-map 12 definitionWords (λ d. refl) (flat (of-tables definitionsIn) ps),
+    (wide-map 16 eventWords (λ e. refl) (flat (of-tables eventsIn) ps),
+    (wide-maps 0 (flat (of-tables mapsIn) ps),
+    (wide-map 2 mapEntryWords (λ e. refl) (flat (of-tables entriesIn) ps),
+    (wide-map 12 templateWords (λ t. refl) (flat (of-tables templatesIn) ps),
+    (wide-unknowns 0 ps, tt)))))))))))
 
--- what is written of the tables, by the lists' numbers
-abbrev pub writtenIn : Counts → Written
-writtenIn c = record { tables = c .tables; definitions = c .definitions; events = c .events; maps = c .maps; templates = c .templates }
+pub parts-wide : (ps : List Provider) (i : ℕ) → i < length rows → length (parts (number i) start ps) ≡ words i * length (getD (lists ps) i [])
+parts-wide ps i h = ap length (sym (listed ps i h)) ∙ wide-length (lists-wide ps i h)
 
+-- no list has more entries than a capacity can be
+abbrev pub Few : List ℕ → Type 0
+Few ns = (i : ℕ) → getD ns i 0 ≤ 65536
+
+-- needs that are few are what is needed
+pub few-uncapped : (ns : List ℕ) → Few (map capped ns) → map capped ns ≡ ns
+few-uncapped [] h = refl
+few-uncapped (n ∷ ns) h =
+    let k = h 0 in
+    let e : capped n ≡ n = omega arith in
+    rw (e, few-uncapped ns (λ i. h (suc i)))
+
+pub few-needed : (ps : List Provider) → Few (needsAll none ps) → needsAll none ps ≡ counted (lists ps)
+few-needed ps h = needed ps ∙ few-uncapped (counted (lists ps)) (rw (needed ps) at h)
+
+-- Where a walk has counted all providers' tables, no number is over that of its list.
 abbrev tables : List Provider → List Table
 tables ps = flat (λ p. kept (p .elements)) ps
 
 of-all : {B : Type 0} (items : Rows → List B) (ps : List Provider) → flat (λ t. items (t .rows)) (tables ps) ≡ flat (of-tables items) ps
 of-all items ps = flat-flat (λ t. items (t .rows)) (λ p. kept (p .elements)) ps
 
-all-written : (ps : List Provider) → writtenAll none-written (tables ps) ≡ writtenIn (counted (lists ps))
-all-written ps =
-    tables-written (tables ps)
-    ∙ rw (of-all definitionsIn ps, of-all eventsIn ps, of-all mapsIn ps, of-all templatesIn ps) (ap writtenIn (sym (counted-numbers ps)))
+-- list 4 counts the tables' entries
+tables-behind : (before : List ℕ) (ts : List Table) → behindAll TABLES before ts ≡ afterAll before ts
+unfolding behindAll afterAll
+tables-behind before [] = refl
+tables-behind before (t ∷ ts) = tables-behind (after before (t .rows)) ts
 
-all-entries : (ps : List Provider) → entriesAll 0 (tables ps) ≡ counted (lists ps) .entries
-all-entries ps = entries-all 0 (tables ps) ∙ rw (zero-add, of-all entriesIn ps) (ap (λ (c : Counts). c .entries) (sym (counted-numbers ps)))
+-- list 7 those of maps
+maps-behind : (a b c d e f g h i j : ℕ) (ts : List Table) → behindAll MAPS (a ∷ b ∷ c ∷ d ∷ e ∷ f ∷ g ∷ h ∷ i ∷ j ∷ []) ts
+    ≡ a ∷ b ∷ c ∷ d ∷ e ∷ f ∷ g ∷ (h + length (flat (λ t. entriesIn (t .rows)) ts)) ∷ i ∷ j ∷ []
+unfolding behindAll flat
+maps-behind a b c d e f g h i j [] = simp add-zero
+maps-behind a b c d e f g h i j (t ∷ ts) =
+    maps-behind a b c d e f g _ i j ts ∙ rw (entries-count (mapsIn (t .rows)), length-append, add-assoc)
 
-pub providers-counted : (ps : List Provider) → counted (lists ps) .providers ≡ length ps
-providers-counted ps = ap (λ (c : Counts). c .providers) (counted-numbers ps) ∙ ap length (flat-single ps)
+tables-end : (ps : List Provider) → behindAll TABLES none (tables ps)
+    ≡ 0 ∷ 0 ∷ 0 ∷ 0 ∷ length (flat (of-tables definitionsIn) ps) ∷ length (flat (of-tables eventsIn) ps) ∷ length (flat (of-tables mapsIn) ps) ∷ 0 ∷ length (flat (of-tables templatesIn) ps) ∷ 0 ∷ []
+tables-end ps = tables-behind none (tables ps) ∙ after-all 0 0 0 0 0 0 (tables ps) 0 0 0 0 ∙ simp (zero-add, of-all definitionsIn, of-all eventsIn, of-all mapsIn, of-all templatesIn)
 
--- the walk over all providers for a list: list 4 has counted the tables with their entries, list 7 the map entries
-pub walk-end : (l : ℕ) → 1 ≤ l → l ≤ 10 → (ps : List Provider) → passedAll l start ps ≡ record {
-  number = length ps;
-  written = choose (eqb l 4) (writtenIn (counted (lists ps))) none-written;
-  entries = choose (eqb l 7) (counted (lists ps) .entries) 0;
-  to = getD widths (l - 1) 0 * length (getD (lists ps) (l - 1) []);
-}
-walk-end l m n ps = passedAll-ahead l start ps ∙ rw (all-written ps, all-entries ps, parts-wide l m n ps) (simp zero-add)
+maps-end : (ps : List Provider) → behindAll MAPS none (tables ps) ≡ 0 ∷ 0 ∷ 0 ∷ 0 ∷ 0 ∷ 0 ∷ 0 ∷ length (flat (of-tables entriesIn) ps) ∷ 0 ∷ 0 ∷ []
+maps-end ps = maps-behind 0 0 0 0 0 0 0 0 0 0 (tables ps) ∙ simp (zero-add, of-all entriesIn)
 
--- no list has more entries than a capacity can be
-pub record Few (c : Counts) : Type 0 where
-  pub providers : c .providers ≤ 65536
-  pub descriptors : c .descriptors ≤ 65536
-  pub unknown2 : c .unknown2 ≤ 65536
-  pub tables : c .tables ≤ 65536
-  pub definitions : c .definitions ≤ 65536
-  pub events : c .events ≤ 65536
-  pub maps : c .maps ≤ 65536
-  pub entries : c .entries ≤ 65536
-  pub templates : c .templates ≤ 65536
-  pub unknown : c .unknown ≤ 65536
+each-few : (ns : List ℕ) → Each (λ n. n ≤ 65536) ns → Few ns
+each-few [] e i = omega arith
+each-few (n ∷ ns) e zero = e .0
+each-few (n ∷ ns) e (suc i) = each-few ns (e .1) i
 
--- needs that are few are what is needed
-uncapped : (n : ℕ) → capped n ≤ 65536 → capped n ≡ n
-uncapped n h = omega arith
+module _ (ps : List Provider) (f : Few (counted (lists ps))) where
+  -- what a list has of the providers, by its row
+  few-of : (i : ℕ) {B : Type 0} (items : Provider → List B) → getD (map (λ g. total g ps) has) i 0 ≡ total (λ p. length (items p)) ps → length (flat items ps) ≤ 65536
+  few-of i items e = omega (arith, ap (λ (ns : List ℕ). getD ns i 0) (counted-has ps), f i, e, total-length items ps)
 
-pub few-uncapped : (c : Counts) → Few (cappedCounts c) → cappedCounts c ≡ c
-few-uncapped c h =
-    λ i. record {
-      providers = uncapped (c .providers) (h .providers) i;
-      descriptors = uncapped (c .descriptors) (h .descriptors) i;
-      unknown2 = uncapped (c .unknown2) (h .unknown2) i;
-      tables = uncapped (c .tables) (h .tables) i;
-      definitions = uncapped (c .definitions) (h .definitions) i;
-      events = uncapped (c .events) (h .events) i;
-      maps = uncapped (c .maps) (h .maps) i;
-      entries = uncapped (c .entries) (h .entries) i;
-      templates = uncapped (c .templates) (h .templates) i;
-      unknown = uncapped (c .unknown) (h .unknown) i;
-    }
+  few-behind : (l : ℕ) → Few (behindAll l none (tables ps))
+  few-behind l = go (eqb l TABLES) (eqb l MAPS) refl refl
+    where
+      none-few : 0 ≤ 65536
+      none-few = omega arith
 
-pub few-needed : (ps : List Provider) → Few (needsAll none ps) → needsAll none ps ≡ counted (lists ps)
-few-needed ps h = needed ps ∙ few-uncapped (counted (lists ps)) (rw (needed ps) at h)
+      go : (t m : Bool) → eqb l TABLES ≡ t → eqb l MAPS ≡ m → Few (behindAll l none (tables ps))
+      go true m e g =
+          rw (eqb-true l TABLES e, tables-end ps)
+          (each-few (0 ∷ 0 ∷ 0 ∷ 0 ∷ length (flat (of-tables definitionsIn) ps) ∷ length (flat (of-tables eventsIn) ps) ∷ length (flat (of-tables mapsIn) ps) ∷ 0 ∷ length (flat (of-tables templatesIn) ps) ∷ 0 ∷ []) (
+          none-few, (none-few, (none-few, (none-few, (
+          few-of 4 (of-tables definitionsIn) refl, (
+          few-of 5 (of-tables eventsIn) refl, (
+          few-of 6 (of-tables mapsIn) refl, (
+          none-few, (few-of 8 (of-tables templatesIn) refl, (none-few, tt)))))))))))
+      go false true e g =
+          rw (eqb-true l MAPS g, maps-end ps)
+          (each-few (0 ∷ 0 ∷ 0 ∷ 0 ∷ 0 ∷ 0 ∷ 0 ∷ length (flat (of-tables entriesIn) ps) ∷ 0 ∷ 0 ∷ []) (
+          none-few, (none-few, (none-few, (none-few, (none-few, (none-few, (none-few, (
+          few-of 7 (of-tables entriesIn) refl, (none-few, (none-few, tt)))))))))))
+      go false false e g =
+          rw (behindAll-same l e g none (tables ps))
+          (each-few none (none-few, (none-few, (none-few, (none-few, (none-few, (none-few, (none-few, (none-few, (none-few, (none-few, tt)))))))))))
 
--- the numbers that no walk is over which fits an area of so many words
-abbrev pub limit : ℕ → Walk
-limit n = record { number = 65536; written = record { tables = 65536; definitions = 65536; events = 65536; maps = 65536; templates = 65536 }; entries = 65536; to = n }
-
--- A walk that goes before fits too, by `grows-trans`.
-pub fits : (l : ℕ) → 1 ≤ l → l ≤ 10 → (ps : List Provider) → Few (counted (lists ps))
-    → Grows (passedAll l start ps) (limit (getD widths (l - 1) 0 * length (getD (lists ps) (l - 1) [])))
-    × (passedAll l start ps .to ≡ getD widths (l - 1) 0 * length (getD (lists ps) (l - 1) []))
-fits l m n ps h =
-    rw (walk-end l m n ps) (
-      record {
-        number = omega (arith, providers-counted ps);
-        written = choose-either (eqb l 4) (λ v. More v (limit 0 .written)) (search needs) (search needs);
-        entries = choose-either (eqb l 7) (λ k. k ≤ 65536) (search needs) (search needs);
-        to = omega arith;
-      },
-      refl,
-    )
+  -- the walk over all providers for a list
+  pub walk-fits : (i : ℕ) → i < length rows → fits (passedAll (number i) start ps) (words i * length (getD (lists ps) i []))
+  walk-fits i h =
+      let n = few-of 0 (λ (p : Provider). p ∷ []) refl in
+      rw (passedAll-ahead (number i) start ps) (omega (arith, parts-wide ps i h), omega (arith, n, ap length (flat-single ps)), few-behind (number i))

@@ -3,6 +3,8 @@ pub mod Field
 pub mod Refuse
 pub mod Name
 pub mod Region
+pub mod Area
+pub mod Entry
 pub mod Table
 pub mod Definition
 pub mod Event

@@ -1,30 +1,22 @@
 -- Filling by Parts is what Lists says: the words of a list are those that the walk stores, provider by provider and table by table.
-use Prim.Native.Nat.{ℕ, suc, _+_, _-_, _≤_}
+use Prim.{Unit, tt}
+use Prim.Native.Nat.{ℕ, zero, suc, _+_, _<_}
 use mathlib.Core.Path.{_≡_, refl, ap, sym, _∙_}
-use mathlib.Core.Bool.{Bool, true, false}
 use mathlib.Core.List.{List, [], _∷_, _++_, map, append-assoc}
 use native.Mathlib.Nat.{add-zero, add-assoc}
 use native.Mathlib.Numerals.{add-one}
 use native.Mathlib.Omega.{arith}
-use borrow.Author.Tests.{eqb-true, eqb-false}
-use lib.Dec.{eqb}
-use lib.ListN.{length, getD}
+use lib.ListN.{length, getD, length-set}
+use lib.Seq.{getD-set-same}
 use Rattle.blob.specs.Laid.{flat, flat-append, flat-single, flat-map, flat-flat, map-flat}
 use Rattle.format.specs.Map.{Mapped}
 use Rattle.format.specs.Provider.{Rows, Table, Provider}
-use Rattle.format.specs.Lists.{Entry, providerWords, descriptorWords, unknown2Words, definitionWords, eventWords, mapEntryWords, templateWords, unknownWords, kept, unknowns, Owned, ownedTables, ownedUnknowns, none-written, tableEntries, definitionsIn, eventsIn, mapsIn, templatesIn, mapList, lists}
-use Rattle.format.specs.Needs.{entryCount}
+use Rattle.format.specs.Lists.{Entry, providerWords, descriptorWords, unknown2Words, definitionWords, eventWords, mapEntryWords, templateWords, unknownWords, kept, unknowns, Owned, ownedTables, ownedUnknowns, tableEntries, definitionsIn, eventsIn, mapsIn, templatesIn, mapList, lists}
+use Rattle.format.specs.Area.{PROVIDERS, DESCRIPTORS, UNKNOWN2, TABLES, DEFINITIONS, EVENTS, MAPS, ENTRIES, TEMPLATES, UNKNOWN, rows, place, none, of, more}
+use Rattle.format.specs.Needs.{entryCount, of-tables, entriesIn}
 use Rattle.format.specs.Parts.{start, walked, walkedAll, tablePart, tableParts, part, passed, parts}
-use Rattle.format.specs.Grows.{walkedAll-ahead}
+use Rattle.format.specs.Grows.{walkedAll-ahead, behindAll-length}
 use Rattle.format.specs.declared.Walk.{Walk}
-use Rattle.format.specs.declared.MapEntry.{MapEntry}
-
--- what a provider's kept tables have, in their order
-abbrev pub of-tables : {B : Type 0} → (Rows → List B) → Provider → List B
-of-tables items p = flat (λ t. items (t .rows)) (kept (p .elements))
-
-abbrev pub entriesIn : Rows → List MapEntry
-entriesIn r = flat (λ m. m .entries) (mapsIn r)
 
 abbrev owned : ℕ → List Table → List Owned
 owned n ts = map (λ t. record { provider = n; table = t }) ts
@@ -48,7 +40,7 @@ itemized ps =
     map providerWords (flat (λ p. p ∷ []) ps)
     ∷ map descriptorWords (flat (λ p. p .descriptors) ps)
     ∷ map unknown2Words (flat (λ p. p .unknown2) ps)
-    ∷ tableEntries none-written (ownedTables 0 ps)
+    ∷ tableEntries none (ownedTables 0 ps)
     ∷ map definitionWords (flat (of-tables definitionsIn) ps)
     ∷ map eventWords (flat (of-tables eventsIn) ps)
     ∷ mapList 0 (flat (of-tables mapsIn) ps)
@@ -103,21 +95,21 @@ table-parts l words items h g = plain-parts l words (of-tables items) (λ w p. p
 
 -- list 4: a table's first entry goes by what the walk has written
 abbrev tablesFrom : Walk → List Owned → List ℕ
-tablesFrom w os = flat (λ e. e) (tableEntries (w .written) os)
+tablesFrom w os = flat (λ e. e) (tableEntries (w .before) os)
 
-tables-then : (w : Walk) (ts : List Table) (os : List Owned) → tablesFrom w (owned (w .number) ts ++ os) ≡ tableParts 4 w ts ++ tablesFrom (walkedAll 4 w ts) os
+tables-then : (w : Walk) (ts : List Table) (os : List Owned) → tablesFrom w (owned (w .number) ts ++ os) ≡ tableParts TABLES w ts ++ tablesFrom (walkedAll TABLES w ts) os
 unfolding flat tableEntries tableParts tablePart walkedAll walked
 tables-then w [] os = refl
-tables-then w (t ∷ ts) os = ap (λ (r : List ℕ). tablePart 4 w t ++ r) (tables-then (walked 4 w t) ts os)
+tables-then w (t ∷ ts) os = ap (λ (r : List ℕ). tablePart TABLES w t ++ r) (tables-then (walked TABLES w t) ts os)
 
-tables-parts : (w : Walk) (ps : List Provider) → tablesFrom w (ownedTables (w .number) ps) ≡ parts 4 w ps
+tables-parts : (w : Walk) (ps : List Provider) → tablesFrom w (ownedTables (w .number) ps) ≡ parts TABLES w ps
 unfolding flat ownedTables tableEntries part passed
-tables-parts = parts-by 4 (λ w ps. tablesFrom w (ownedTables (w .number) ps)) (λ w. refl) more
+tables-parts = parts-by TABLES (λ w ps. tablesFrom w (ownedTables (w .number) ps)) (λ w. refl) more
   where
-    more : (w : Walk) (p : Provider) (ps : List Provider) → tablesFrom w (ownedTables (w .number) (p ∷ ps)) ≡ part 4 w p ++ tablesFrom (passed 4 w p) (ownedTables (passed 4 w p .number) ps)
+    more : (w : Walk) (p : Provider) (ps : List Provider) → tablesFrom w (ownedTables (w .number) (p ∷ ps)) ≡ part TABLES w p ++ tablesFrom (passed TABLES w p) (ownedTables (passed TABLES w p .number) ps)
     more w p ps =
         let ts = kept (p .elements) in
-        let e : walkedAll 4 w ts .number + 1 ≡ suc (w .number) = ap (λ (v : Walk). v .number + 1) (walkedAll-ahead 4 w ts) ∙ add-one (w .number) in
+        let e : walkedAll TABLES w ts .number + 1 ≡ suc (w .number) = ap (λ (v : Walk). v .number + 1) (walkedAll-ahead TABLES w ts) ∙ add-one (w .number) in
         rw e (tables-then w ts (ownedTables (suc (w .number)) ps))
 
 -- list 7: a map's first entry goes by the entries that the walk has passed
@@ -129,57 +121,68 @@ unfolding mapList entryCount
 mapList-append n [] ns = simp add-zero
 mapList-append n (m ∷ ms) ns = rw (mapList-append (n + length (m .entries)) ms ns, add-assoc)
 
-maps-then : (w : Walk) (ts : List Table) (ms : List Mapped)
-    → mapsFrom (w .entries) (flat (λ t. mapsIn (t .rows)) ts ++ ms) ≡ tableParts 7 w ts ++ mapsFrom (walkedAll 7 w ts .entries) ms
-unfolding flat tableParts tablePart walkedAll walked
-maps-then w [] ms = refl
-maps-then w (t ∷ ts) ms =
-    let rest = flat (λ (u : Table). mapsIn (u .rows)) ts in
-    ap (mapsFrom (w .entries)) (append-assoc (mapsIn (t .rows)) rest ms)
-    ∙ ap (flat (λ e. e)) (mapList-append (w .entries) (mapsIn (t .rows)) (rest ++ ms))
-    ∙ flat-append (λ e. e) (mapList (w .entries) (mapsIn (t .rows))) _
-    ∙ ap (λ (r : List ℕ). tablePart 7 w t ++ r) (maps-then (walked 7 w t) ts ms)
-    ∙ sym (append-assoc (tablePart 7 w t) _ _)
+-- so many more are so many more, where there is a number of them
+more-here : (ns : List ℕ) (n : ℕ) → length ns ≡ length rows → of ENTRIES (more ENTRIES n ns) ≡ of ENTRIES ns + n
+more-here ns n h = getD-set-same ns (place ENTRIES) _ 0 (omega arith)
 
-maps-parts : (w : Walk) (ps : List Provider) → mapsFrom (w .entries) (flat (of-tables mapsIn) ps) ≡ parts 7 w ps
-unfolding flat part passed mapList
-maps-parts = parts-by 7 (λ w ps. mapsFrom (w .entries) (flat (of-tables mapsIn) ps)) (λ w. refl) (λ w p ps. maps-then w (kept (p .elements)) (flat (of-tables mapsIn) ps))
+maps-then : (w : Walk) (ts : List Table) (ms : List Mapped) → length (w .before) ≡ length rows
+    → mapsFrom (of ENTRIES (w .before)) (flat (λ t. mapsIn (t .rows)) ts ++ ms) ≡ tableParts MAPS w ts ++ mapsFrom (of ENTRIES (walkedAll MAPS w ts .before)) ms
+unfolding flat tableParts tablePart walkedAll walked
+maps-then w [] ms h = refl
+maps-then w (t ∷ ts) ms h =
+    let rest = flat (λ (u : Table). mapsIn (u .rows)) ts in
+    let n = of ENTRIES (w .before) in
+    ap (mapsFrom n) (append-assoc (mapsIn (t .rows)) rest ms)
+    ∙ ap (flat (λ e. e)) (mapList-append n (mapsIn (t .rows)) (rest ++ ms))
+    ∙ flat-append (λ e. e) (mapList n (mapsIn (t .rows))) _
+    ∙ ap (λ k. tablePart MAPS w t ++ mapsFrom k (rest ++ ms)) (sym (more-here (w .before) (entryCount (mapsIn (t .rows))) h))
+    ∙ ap (λ (r : List ℕ). tablePart MAPS w t ++ r) (maps-then (walked MAPS w t) ts ms (length-set (w .before) _ _ ∙ h))
+    ∙ sym (append-assoc (tablePart MAPS w t) _ _)
+
+maps-parts : (w : Walk) (ps : List Provider) → length (w .before) ≡ length rows → mapsFrom (of ENTRIES (w .before)) (flat (of-tables mapsIn) ps) ≡ parts MAPS w ps
+unfolding flat parts part passed mapList
+maps-parts w [] h = refl
+maps-parts w (p ∷ ps) h =
+    maps-then w (kept (p .elements)) (flat (of-tables mapsIn) ps) h
+    ∙ ap (λ (r : List ℕ). part MAPS w p ++ r) (maps-parts (passed MAPS w p) ps (
+      ap (λ (v : Walk). length (v .before)) (walkedAll-ahead MAPS w (kept (p .elements))) ∙ behindAll-length MAPS (w .before) (kept (p .elements)) ∙ h))
 
 -- list 10: an unknown element has its provider's number
-unknown-parts : (w : Walk) (ps : List Provider) → flat (λ e. e) (ownedUnknowns (w .number) ps) ≡ parts 10 w ps
+unknown-parts : (w : Walk) (ps : List Provider) → flat (λ e. e) (ownedUnknowns (w .number) ps) ≡ parts UNKNOWN w ps
 unfolding flat ownedUnknowns part passed
-unknown-parts = parts-by 10 (λ w ps. flat (λ e. e) (ownedUnknowns (w .number) ps)) (λ w. refl) more
+unknown-parts = parts-by UNKNOWN (λ w ps. flat (λ e. e) (ownedUnknowns (w .number) ps)) (λ w. refl) more
   where
     more : (w : Walk) (p : Provider) (ps : List Provider)
-        → flat (λ e. e) (ownedUnknowns (w .number) (p ∷ ps)) ≡ part 10 w p ++ flat (λ e. e) (ownedUnknowns (passed 10 w p .number) ps)
+        → flat (λ e. e) (ownedUnknowns (w .number) (p ∷ ps)) ≡ part UNKNOWN w p ++ flat (λ e. e) (ownedUnknowns (passed UNKNOWN w p .number) ps)
     more w p ps =
         flat-append (λ e. e) (map (unknownWords (w .number)) (unknowns (p .elements))) _
         ∙ rw (flat-map (λ e. e) (unknownWords (w .number)) (unknowns (p .elements)), add-one)
 
--- what holds of each list's number
-up-to : (P : ℕ → Type 0) (k : ℕ) → ((l : ℕ) → 1 ≤ l → l ≤ k → P l) → P (k + 1) → (l : ℕ) → 1 ≤ l → l ≤ k + 1 → P l
-up-to P k f p l m n = go (eqb l (k + 1)) refl
-  where
-    go : (t : Bool) → eqb l (k + 1) ≡ t → P l
-    go true e = rw (eqb-true l (k + 1) e) p
-    go false e = f l m (omega (arith, eqb-false l (k + 1) e))
+-- what holds of the first n numbers holds of each of them
+abbrev pub First : (ℕ → Type 0) → ℕ → Type 0
+First P zero = Unit {0}
+First P (suc n) = P 0 × First (λ i. P (suc i)) n
 
-pub each-of-ten : (P : ℕ → Type 0) → P 1 → P 2 → P 3 → P 4 → P 5 → P 6 → P 7 → P 8 → P 9 → P 10 → (l : ℕ) → 1 ≤ l → l ≤ 10 → P l
-each-of-ten P a b c d e f g h i j =
-    up-to P 9 (up-to P 8 (up-to P 7 (up-to P 6 (up-to P 5 (up-to P 4 (up-to P 3 (up-to P 2 (up-to P 1 (up-to P 0 (λ l m n. absurd (omega arith)) a) b) c) d) e) f) g) h) i) j
+pub first : (P : ℕ → Type 0) (n : ℕ) → First P n → (i : ℕ) → i < n → P i
+first P zero h i g = absurd (omega arith)
+first P (suc n) h zero g = h .0
+first P (suc n) h (suc i) g = first (λ j. P (suc j)) n (h .1) i (omega arith)
 
-pub listed : (l : ℕ) → 1 ≤ l → l ≤ 10 → (ps : List Provider) → flat (λ e. e) (getD (lists ps) (l - 1) []) ≡ parts l start ps
+-- the number of the list of a row
+abbrev pub number : ℕ → ℕ
+number i = getD (map (λ r. r .number) rows) i 0
+
+pub listed : (ps : List Provider) (i : ℕ) → i < length rows → flat (λ e. e) (getD (lists ps) i []) ≡ parts (number i) start ps
 unfolding flat part tablePart
-listed l m n ps =
-    rw (lists-itemized ps) (each-of-ten (λ l. flat (λ e. e) (getD (itemized ps) (l - 1) []) ≡ parts l start ps)
-    (plain-parts 1 providerWords (λ p. p ∷ []) (λ w p. refl) start ps)
-    (plain-parts 2 descriptorWords (λ p. p .descriptors) (λ w p. refl) start ps)
-    (plain-parts 3 unknown2Words (λ p. p .unknown2) (λ w p. refl) start ps)
-    (tables-parts start ps)
-    (table-parts 5 definitionWords definitionsIn (λ w t. refl) (λ w p. refl) start ps)
-    (table-parts 6 eventWords eventsIn (λ w t. refl) (λ w p. refl) start ps)
-    (maps-parts start ps)
-    (table-parts 8 mapEntryWords entriesIn (λ w t. flat-flat mapEntryWords (λ m. m .entries) (mapsIn (t .rows))) (λ w p. refl) start ps)
-    (table-parts 9 templateWords templatesIn (λ w t. refl) (λ w p. refl) start ps)
-    (unknown-parts start ps)
-    l m n)
+listed ps =
+    rw (lists-itemized ps) (first (λ i. flat (λ e. e) (getD (itemized ps) i []) ≡ parts (number i) start ps) (length rows) (
+    plain-parts PROVIDERS providerWords (λ p. p ∷ []) (λ w p. refl) start ps,
+    (plain-parts DESCRIPTORS descriptorWords (λ p. p .descriptors) (λ w p. refl) start ps,
+    (plain-parts UNKNOWN2 unknown2Words (λ p. p .unknown2) (λ w p. refl) start ps,
+    (tables-parts start ps,
+    (table-parts DEFINITIONS definitionWords definitionsIn (λ w t. refl) (λ w p. refl) start ps,
+    (table-parts EVENTS eventWords eventsIn (λ w t. refl) (λ w p. refl) start ps,
+    (maps-parts start ps refl,
+    (table-parts ENTRIES mapEntryWords entriesIn (λ w t. flat-flat mapEntryWords (λ m. m .entries) (mapsIn (t .rows))) (λ w p. refl) start ps,
+    (table-parts TEMPLATES templateWords templatesIn (λ w t. refl) (λ w p. refl) start ps,
+    (unknown-parts start ps, tt)))))))))))

@@ -1,4 +1,4 @@
--- The ten lists of an accepted blob, entry by entry and word by word.
+-- The lists of an accepted blob, entry by entry and word by word.
 -- "Numbering starts at 0. Lists run provider by provider; within one, tables by kind, entries in file order, the rest in descriptor or
 -- array order." (the lists)
 use Prim.Native.Nat.{ℕ, suc, _+_}
@@ -7,6 +7,7 @@ use lib.ListN.{length}
 use lib.Dec.{eqb}
 use Rattle.blob.specs.Reading.{choose}
 use Rattle.blob.specs.Laid.{flat}
+use Rattle.format.specs.Area.{DEFINITIONS, EVENTS, MAPS, TEMPLATES, none, of, more}
 use Rattle.format.specs.Table.{kinds}
 use Rattle.format.specs.Map.{Mapped}
 use Rattle.format.specs.Provider.{Rows, definitions, events, maps, templates, Table, Element, table, unknown, Provider}
@@ -18,7 +19,6 @@ use Rattle.format.specs.declared.Map.{Map}
 use Rattle.format.specs.declared.MapEntry.{MapEntry}
 use Rattle.format.specs.declared.Descriptor.{Descriptor}
 use Rattle.format.specs.declared.Unknown.{Unknown}
-use Rattle.format.specs.declared.Written.{Written}
 
 -- an entry is its words
 abbrev pub Entry : Type 0
@@ -106,12 +106,12 @@ unfoldable pub ownedUnknowns : ℕ → List Provider → List Entry
 ownedUnknowns n [] = []
 ownedUnknowns n (p ∷ ps) = map (unknownWords n) (unknowns (p .elements)) ++ ownedUnknowns (suc n) ps
 
--- "First entry of an empty table or VMAP is the number of entries written before it."
-abbrev pub before : Written → Rows → ℕ
-before w (definitions ds) = w .definitions
-before w (events es) = w .events
-before w (maps ms) = w .maps
-before w (templates ts) = w .templates
+-- the list that a table has its entries in, and how many they are
+abbrev pub listOf : Rows → ℕ
+listOf (definitions ds) = DEFINITIONS
+listOf (events es) = EVENTS
+listOf (maps ms) = MAPS
+listOf (templates ts) = TEMPLATES
 
 abbrev pub rowCount : Rows → ℕ
 rowCount (definitions ds) = length ds
@@ -119,29 +119,20 @@ rowCount (events es) = length es
 rowCount (maps ms) = length ms
 rowCount (templates ts) = length ts
 
-abbrev pub none-written : Written
-none-written = record { tables = 0; definitions = 0; events = 0; maps = 0; templates = 0 }
-
--- what was written, with one more table
-abbrev pub written : Written → Rows → Written
-written w (definitions ds) =
-    record { tables = w .tables + 1; definitions = w .definitions + length ds; events = w .events; maps = w .maps; templates = w .templates }
-written w (events es) =
-    record { tables = w .tables + 1; definitions = w .definitions; events = w .events + length es; maps = w .maps; templates = w .templates }
-written w (maps ms) =
-    record { tables = w .tables + 1; definitions = w .definitions; events = w .events; maps = w .maps + length ms; templates = w .templates }
-written w (templates ts) =
-    record { tables = w .tables + 1; definitions = w .definitions; events = w .events; maps = w .maps; templates = w .templates + length ts }
+-- what was written in each list, with one more table
+abbrev pub after : List ℕ → Rows → List ℕ
+after before r = more (listOf r) (rowCount r) before
 
 -- "4 tables | 9 | provider number, kind, offset, size, extra, first entry, count, trailing start, trailing length"
-abbrev pub tableWords : Written → Owned → Entry
-tableWords w o =
+-- "First entry of an empty table or VMAP is the number of entries written before it."
+abbrev pub tableWords : List ℕ → Owned → Entry
+tableWords before o =
     o .provider ∷ o .table .kind ∷ o .table .offset ∷ o .table .size ∷ o .table .extra
-    ∷ before w (o .table .rows) ∷ rowCount (o .table .rows) ∷ o .table .start ∷ o .table .length ∷ []
+    ∷ of (listOf (o .table .rows)) before ∷ rowCount (o .table .rows) ∷ o .table .start ∷ o .table .length ∷ []
 
-unfoldable pub tableEntries : Written → List Owned → List Entry
-tableEntries w [] = []
-tableEntries w (o ∷ os) = tableWords w o ∷ tableEntries (written w (o .table .rows)) os
+unfoldable pub tableEntries : List ℕ → List Owned → List Entry
+tableEntries before [] = []
+tableEntries before (o ∷ os) = tableWords before o ∷ tableEntries (after before (o .table .rows)) os
 
 -- the entries that a table has in each list
 abbrev pub definitionsIn : Rows → List Definition
@@ -172,7 +163,7 @@ unfoldable pub mapList : ℕ → List Mapped → List Entry
 mapList n [] = []
 mapList n (m ∷ ms) = mapWords n (m .map) ∷ mapList (n + length (m .entries)) ms
 
--- the ten lists, in their order
+-- the lists, in the order of their rows
 unfoldable pub lists : List Provider → List (List Entry)
 lists ps =
     let tables = ownedTables 0 ps in
@@ -180,7 +171,7 @@ lists ps =
     map providerWords ps
     ∷ flat (λ p. map descriptorWords (p .descriptors)) ps
     ∷ flat (λ p. map unknown2Words (p .unknown2)) ps
-    ∷ tableEntries none-written tables
+    ∷ tableEntries none tables
     ∷ flat (λ o. map definitionWords (definitionsIn (o .table .rows))) tables
     ∷ flat (λ o. map eventWords (eventsIn (o .table .rows))) tables
     ∷ mapList 0 all-maps

@@ -7,10 +7,11 @@ use lib.ListN.{length, getD, take, drop}
 use lib.Dec.{leb, ltb, eqb}
 use Rattle.blob.specs.Reading.{Outcome, done, refused, choose, answer}
 use Rattle.blob.specs.Laid.{laid, flat}
-use Rattle.format.specs.Table.{EVNT, TTBL}
+use Rattle.format.specs.Area.{PROVIDERS, TABLES, EVENTS, TEMPLATES, rows, place, width, of}
+use Rattle.format.specs.Entry.{TABLE-PROVIDER, TABLE-KIND, TABLE-FIRST, TABLE-COUNT, GUID, KEY, EVENT-TEMPLATE, TEMPLATE-OFFSET, TEMPLATE-GUID}
+use Rattle.format.specs.Table.{EVNT, TTBL, kindList}
 use Rattle.format.specs.Lists.{Entry, guidWords}
-use Rattle.format.specs.Answer.{widths, ten, own, too-small, areas, lent-enough}
-use Rattle.format.specs.declared.Counts.{Counts}
+use Rattle.format.specs.Answer.{own, too-small, areas, lent-enough}
 use Rattle.format.specs.declared.Key.{Key}
 use Rattle.format.specs.declared.TemplateFound.{TemplateFound}
 use Rattle.format.specs.declared.TemplateFound.the-variants as template
@@ -23,9 +24,8 @@ entriesFrom width zero at words = []
 entriesFrom width (suc n) at words = take width (drop at words) ∷ entriesFrom width n (at + width) words
 
 -- the entries of a list, by its number: its area starts where those before it end
-abbrev pub entriesOf : List ℕ → Counts → Counts → ℕ → List Entry
-entriesOf words capacities counts l =
-    entriesFrom (getD widths (l - 1) 0) (getD (ten counts) (l - 1) 0) (areas (take (l - 1) (ten capacities)) widths) words
+abbrev pub entriesOf : List ℕ → List ℕ → List ℕ → ℕ → List Entry
+entriesOf words capacities counts l = entriesFrom (width l) (of l counts) (areas rows (take (place l) capacities)) words
 
 -- a word of an entry
 abbrev pub wordOf : ℕ → Entry → ℕ
@@ -53,11 +53,11 @@ abbrev pub numbered : List ℕ → TemplateFound
 numbered [] = template.Nothing
 numbered (n ∷ ns) = template.Number n
 
-unfoldable pub byOffset : List ℕ → Counts → Counts → (first count offset : ℕ) → TemplateFound
+unfoldable pub byOffset : List ℕ → List ℕ → List ℕ → (first count offset : ℕ) → TemplateFound
 byOffset words capacities counts first count offset =
     choose (lent-enough capacities words)
-    (choose (counts-fit (ten counts) (ten capacities) && leb (first + count) (counts .templates))
-    (numbered (position (λ t. eqb (wordOf 0 t) offset) first (take count (drop first (entriesOf words capacities counts 9)))))
+    (choose (counts-fit counts capacities && leb (first + count) (of TEMPLATES counts))
+    (numbered (position (λ t. eqb (wordOf TEMPLATE-OFFSET t) offset) first (take count (drop first (entriesOf words capacities counts TEMPLATES)))))
     (template.Refused (own 10)))
     (template.Refused (own 8))
 
@@ -78,56 +78,52 @@ unfoldable pub once : List Entry → List Entry → List Entry
 once seen [] = []
 once seen (g ∷ gs) = choose (among g seen) (once seen gs) (g ∷ once (g ∷ seen) gs)
 
--- the list that a kind's tables have their entries in
-abbrev pub listOf : ℕ → ℕ
-listOf k = getD (0 ∷ 5 ∷ 6 ∷ 5 ∷ 5 ∷ 7 ∷ 5 ∷ 5 ∷ 9 ∷ []) k 0
-
 -- "10 | lookup over lists that don't fit together | 0; 0, 0" (the answer). "10 if any table entry names a missing provider or a range
--- past its list, or its kind isn't 1 to 8, and for nothing else but such counts." A table entry's words: provider number, kind, ..,
--- first entry and count at 5 and 6
-abbrev pub tableFits : Counts → Entry → Bool
+-- past its list, or its kind isn't 1 to 8, and for nothing else but such counts."
+abbrev pub tableFits : List ℕ → Entry → Bool
 tableFits counts t =
-    ltb (wordOf 0 t) (counts .providers) && (leb 1 (wordOf 1 t) && (leb (wordOf 1 t) 8
-    && leb (wordOf 5 t + wordOf 6 t) (getD (ten counts) (listOf (wordOf 1 t) - 1) 0)))
+    ltb (wordOf TABLE-PROVIDER t) (of PROVIDERS counts) && (leb 1 (wordOf TABLE-KIND t) && (leb (wordOf TABLE-KIND t) 8
+    && leb (wordOf TABLE-FIRST t + wordOf TABLE-COUNT t) (of (kindList (wordOf TABLE-KIND t)) counts)))
 
-unfoldable pub tablesFit : Counts → List Entry → Bool
+unfoldable pub tablesFit : List ℕ → List Entry → Bool
 tablesFit counts [] = true
 tablesFit counts (t ∷ ts) = tableFits counts t && tablesFit counts ts
 
 -- "A provider's first table entry of a kind is used.": the entries of its range, in their list
 abbrev pub ownedBy : List Entry → ℕ → ℕ → List Entry → List Entry
 ownedBy tables provider kind es =
-    flat (λ t. take (wordOf 6 t) (drop (wordOf 5 t) es)) (take 1 (select (λ t. eqb (wordOf 0 t) provider && eqb (wordOf 1 t) kind) tables))
+    flat (λ t. take (wordOf TABLE-COUNT t) (drop (wordOf TABLE-FIRST t) es))
+    (take 1 (select (λ t. eqb (wordOf TABLE-PROVIDER t) provider && eqb (wordOf TABLE-KIND t) kind) tables))
 
 -- "the seven fields `event_id` to `keywords`", as an event's first eight words
 abbrev pub keyWords : Key → List ℕ
 keyWords k = k .identifier ∷ k .version ∷ k .channel ∷ k .level ∷ k .opcode ∷ k .task ∷ k .low ∷ k .high ∷ []
 
--- an event with that key and a template offset (word 9)
+-- an event with that key and a template offset
 abbrev pub keyed : Key → Entry → Bool
-keyed k e = alike (take 8 e) (keyWords k) && not (eqb (wordOf 9 e) 0)
+keyed k e = alike (take KEY e) (keyWords k) && not (eqb (wordOf EVENT-TEMPLATE e) 0)
 
--- the GUID (words 6 to 9) of the lowest of some templates at an offset; none or one
+-- the GUID of the lowest of some templates at an offset; none or one
 abbrev pub guidAtOffset : List Entry → ℕ → List Entry
-guidAtOffset ts offset = map (λ t. take 4 (drop 6 t)) (take 1 (select (λ t. eqb (wordOf 0 t) offset) ts))
+guidAtOffset ts offset = map (λ t. take GUID (drop TEMPLATE-GUID t)) (take 1 (select (λ t. eqb (wordOf TEMPLATE-OFFSET t) offset) ts))
 
 -- "It takes the first provider with that GUID .. Its events with that key, a template offset and a found template give template GUIDs"
-unfoldable pub guidsOf : List ℕ → Counts → Counts → Key → List Entry
+unfoldable pub guidsOf : List ℕ → List ℕ → List ℕ → Key → List Entry
 guidsOf words capacities counts key =
-    let tables = entriesOf words capacities counts 4 in
+    let tables = entriesOf words capacities counts TABLES in
     flat (λ p.
-    let ts = ownedBy tables p TTBL (entriesOf words capacities counts 9) in
-    once [] (flat (λ e. guidAtOffset ts (wordOf 9 e)) (select (keyed key) (ownedBy tables p EVNT (entriesOf words capacities counts 6)))))
-    (position (λ p. alike (take 4 p) (guidWords (key .guid))) 0 (entriesOf words capacities counts 1))
+    let ts = ownedBy tables p TTBL (entriesOf words capacities counts TEMPLATES) in
+    once [] (flat (λ e. guidAtOffset ts (wordOf EVENT-TEMPLATE e)) (select (keyed key) (ownedBy tables p EVNT (entriesOf words capacities counts EVENTS)))))
+    (position (λ p. alike (take GUID p) (guidWords (key .guid))) 0 (entriesOf words capacities counts PROVIDERS))
 
 -- "By key .. into a lent list of 4-word entries (9, list number 11, if short)"; "A list lent singly has as capacity its length over its
 -- entry's words, rounded down." (the answer)
-unfoldable pub byKey : List ℕ → Counts → Counts → Key → List ℕ → Outcome (List Entry)
+unfoldable pub byKey : List ℕ → List ℕ → List ℕ → Key → List ℕ → Outcome (List Entry)
 byKey words capacities counts key lent =
-    let capacity = length lent / 4 in
+    let capacity = length lent / GUID in
     let found = guidsOf words capacities counts key in
     choose (lent-enough capacities words && leb capacity 65536)
-    (choose (counts-fit (ten counts) (ten capacities) && tablesFit counts (entriesOf words capacities counts 4))
+    (choose (counts-fit counts capacities && tablesFit counts (entriesOf words capacities counts TABLES))
     (choose (leb (length found) capacity) (done found) (refused (too-small 11 capacity)))
     (refused (own 10)))
     (refused (own 8))

@@ -1,48 +1,55 @@
 -- What the check counts is what the lists need: as far as anyone asks, each list's number of entries.
+use Prim.{tt}
 use Prim.Native.Nat.{ℕ, suc, _+_, _≤_}
 use mathlib.Core.Path.{_≡_, refl, ap, sym, _∙_}
-use mathlib.Core.List.{List, [], _∷_}
+use mathlib.Core.List.{List, [], _∷_, _++_, map}
 use native.Mathlib.Nat.{add-zero, zero-add, add-assoc}
 use native.Mathlib.Omega.{arith}
 use lib.ListN.{length, length-append, length-map}
-use Rattle.blob.specs.Laid.{flat, flat-single}
+use Rattle.blob.specs.Laid.{flat}
+use Rattle.format.specs.Area.{none}
 use Rattle.format.specs.Map.{Mapped}
 use Rattle.format.specs.Provider.{Rows, definitions, events, maps, templates, Table, Provider}
-use Rattle.format.specs.Lists.{kept, unknowns, Owned, ownedTables, ownedUnknowns, none-written, written, tableEntries, definitionsIn, eventsIn, mapsIn, templatesIn, mapList, lists}
-use Rattle.format.specs.Needs.{entryCount, entriesAll, writtenAll, needsOf, plus, none, needsAll}
-use Rattle.format.specs.Answer.{counted, capped, cappedCounts}
-use Rattle.format.specs.Listed.{of-tables, entriesIn, lists-itemized}
-use Rattle.format.specs.declared.Written.{Written}
-use Rattle.format.specs.declared.Counts.{Counts}
+use Rattle.format.specs.Lists.{kept, unknowns, Owned, ownedTables, ownedUnknowns, after, tableEntries, definitionsIn, eventsIn, mapsIn, templatesIn, mapList, lists}
+use Rattle.format.specs.Answer.{counted, capped}
+use Rattle.format.specs.Needs.{entryCount, entriesAll, afterAll, of-tables, entriesIn, has, needsOf, plus, modest, needsAll}
+use Rattle.format.specs.Listed.{lists-itemized}
 
--- what was written, with a table more, whatever its rows are
-abbrev with-rows : Written → Rows → Written
-with-rows w r =
-    record {
-      tables = w .tables + 1;
-      definitions = w .definitions + length (definitionsIn r);
-      events = w .events + length (eventsIn r);
-      maps = w .maps + length (mapsIn r);
-      templates = w .templates + length (templatesIn r);
-    }
+-- how many entries each list has of some tables, with so many before; written out for each row
+module _ (a b c d h j : ℕ) where
+  abbrev rowsOf : ℕ → ℕ → ℕ → ℕ → List ℕ
+  rowsOf e f g i = a ∷ b ∷ c ∷ d ∷ e ∷ f ∷ g ∷ h ∷ i ∷ j ∷ []
 
-written-one : (w : Written) (r : Rows) → written w r ≡ with-rows w r
-written-one w (definitions ds) = simp add-zero
-written-one w (events es) = simp add-zero
-written-one w (maps ms) = simp add-zero
-written-one w (templates ts) = simp add-zero
+  abbrev counts : (e f g i : ℕ) → List Table → List ℕ
+  counts e f g i ts =
+      rowsOf
+      (e + length (flat (λ t. definitionsIn (t .rows)) ts))
+      (f + length (flat (λ t. eventsIn (t .rows)) ts))
+      (g + length (flat (λ t. mapsIn (t .rows)) ts))
+      (i + length (flat (λ t. templatesIn (t .rows)) ts))
 
--- one number of it, of some tables
-module _ {B : Type 0} (number : Written → ℕ) (items : Table → List B) (h : (w : Written) (t : Table) → number (with-rows w (t .rows)) ≡ number w + length (items t)) where
-  written-all : (w : Written) (ts : List Table) → number (writtenAll w ts) ≡ number w + length (flat items ts)
-  unfolding flat writtenAll
-  written-all w [] = sym (add-zero (number w))
-  written-all w (t ∷ ts) = written-all (written w (t .rows)) ts ∙ simp (written-one, h w t, length-append, add-assoc)
+  after-one : (e f g i : ℕ) (t : Table) (ts : List Table) → ((e f g i : ℕ) → afterAll (rowsOf e f g i) ts ≡ counts e f g i ts)
+      → afterAll (rowsOf e f g i) (t ∷ ts) ≡ counts e f g i (t ∷ ts)
+  unfolding flat afterAll
+  after-one e f g i t ts ih = one (t .rows)
+    where
+      one : (r : Rows) → afterAll (after (rowsOf e f g i) r) ts
+          ≡ rowsOf
+          (e + length (definitionsIn r ++ flat (λ t. definitionsIn (t .rows)) ts))
+          (f + length (eventsIn r ++ flat (λ t. eventsIn (t .rows)) ts))
+          (g + length (mapsIn r ++ flat (λ t. mapsIn (t .rows)) ts))
+          (i + length (templatesIn r ++ flat (λ t. templatesIn (t .rows)) ts))
+      one (definitions ds) = ih (e + length ds) f g i ∙ rw (length-append ds, add-assoc)
+      one (events es) = ih e (f + length es) g i ∙ rw (length-append es, add-assoc)
+      one (maps ms) = ih e f (g + length ms) i ∙ rw (length-append ms, add-assoc)
+      one (templates vs) = ih e f g (i + length vs) ∙ rw (length-append vs, add-assoc)
 
-  from-none : number none-written ≡ 0 → (ts : List Table) → number (writtenAll none-written ts) ≡ length (flat items ts)
-  from-none z ts = written-all none-written ts ∙ rw (z, zero-add)
+  pub after-all : (ts : List Table) (e f g i : ℕ) → afterAll (rowsOf e f g i) ts ≡ counts e f g i ts
+  unfolding flat afterAll
+  after-all [] e f g i = simp add-zero
+  after-all (t ∷ ts) e f g i = after-one e f g i t ts (after-all ts)
 
-entries-count : (ms : List Mapped) → entryCount ms ≡ length (flat (λ m. m .entries) ms)
+pub entries-count : (ms : List Mapped) → entryCount ms ≡ length (flat (λ m. m .entries) ms)
 unfolding flat entryCount
 entries-count [] = refl
 entries-count (m ∷ ms) = simp (entries-count ms, length-append)
@@ -52,40 +59,7 @@ unfolding flat entriesAll
 entries-all n [] = sym (add-zero n)
 entries-all n (t ∷ ts) = entries-all (n + entryCount (mapsIn (t .rows))) ts ∙ simp (entries-count (mapsIn (t .rows)), length-append, add-assoc)
 
--- what is written of some tables
-pub tables-written : (ts : List Table) → writtenAll none-written ts ≡ record {
-  tables = length ts;
-  definitions = length (flat (λ t. definitionsIn (t .rows)) ts);
-  events = length (flat (λ t. eventsIn (t .rows)) ts);
-  maps = length (flat (λ t. mapsIn (t .rows)) ts);
-  templates = length (flat (λ t. templatesIn (t .rows)) ts);
-}
-tables-written ts =
-    λ i. record {
-      tables = (from-none (λ w. w .tables) (λ t. t ∷ []) (λ w t. refl) refl ts ∙ ap length (flat-single ts)) i;
-      definitions = from-none (λ w. w .definitions) (λ t. definitionsIn (t .rows)) (λ w t. refl) refl ts i;
-      events = from-none (λ w. w .events) (λ t. eventsIn (t .rows)) (λ w t. refl) refl ts i;
-      maps = from-none (λ w. w .maps) (λ t. mapsIn (t .rows)) (λ w t. refl) refl ts i;
-      templates = from-none (λ w. w .templates) (λ t. templatesIn (t .rows)) (λ w t. refl) refl ts i;
-    }
-
--- how many entries each list has of some providers, by what a provider has in it
-abbrev pub numbers : List Provider → Counts
-numbers ps =
-    record {
-      providers = length (flat (λ p. p ∷ []) ps);
-      descriptors = length (flat (λ p. p .descriptors) ps);
-      unknown2 = length (flat (λ p. p .unknown2) ps);
-      tables = length (flat (λ p. kept (p .elements)) ps);
-      definitions = length (flat (of-tables definitionsIn) ps);
-      events = length (flat (of-tables eventsIn) ps);
-      maps = length (flat (of-tables mapsIn) ps);
-      entries = length (flat (of-tables entriesIn) ps);
-      templates = length (flat (of-tables templatesIn) ps);
-      unknown = length (flat (λ p. unknowns (p .elements)) ps);
-    }
-
-tableEntries-length : (w : Written) (os : List Owned) → length (tableEntries w os) ≡ length os
+tableEntries-length : (w : List ℕ) (os : List Owned) → length (tableEntries w os) ≡ length os
 unfolding tableEntries
 tableEntries-length w [] = refl
 tableEntries-length w (o ∷ os) = ap suc (tableEntries-length _ os)
@@ -105,56 +79,65 @@ unfolding flat ownedUnknowns
 ownedUnknowns-length n [] = refl
 ownedUnknowns-length n (p ∷ ps) = simp (length-append, length-map, ownedUnknowns-length (suc n) ps)
 
-pub counted-numbers : (ps : List Provider) → counted (lists ps) ≡ numbers ps
-counted-numbers ps =
-    rw (lists-itemized ps) (simp (length-map, tableEntries-length, mapList-length, ownedTables-length, ownedUnknowns-length))
+-- what all providers have, of what one has
+unfoldable pub total : (Provider → ℕ) → List Provider → ℕ
+total f [] = 0
+total f (p ∷ ps) = f p + total f ps
 
--- what a provider needs, in the same terms
-abbrev one : Provider → Counts
-one p =
-    record {
-      providers = 1;
-      descriptors = length (p .descriptors);
-      unknown2 = length (p .unknown2);
-      tables = length (kept (p .elements));
-      definitions = length (of-tables definitionsIn p);
-      events = length (of-tables eventsIn p);
-      maps = length (of-tables mapsIn p);
-      entries = length (of-tables entriesIn p);
-      templates = length (of-tables templatesIn p);
-      unknown = length (unknowns (p .elements));
-    }
+pub total-length : {B : Type 0} (items : Provider → List B) (ps : List Provider) → total (λ p. length (items p)) ps ≡ length (flat items ps)
+unfolding flat total
+total-length items [] = refl
+total-length items (p ∷ ps) = rw (length-append, total-length items ps)
 
-needs-one : (p : Provider) → needsOf p ≡ one p
-needs-one p = rw (tables-written (kept (p .elements)), entries-all 0 (kept (p .elements)), zero-add)
+-- each list has of all providers what it has of one after the other
+pub counted-has : (ps : List Provider) → counted (lists ps) ≡ map (λ f. total f ps) has
+counted-has ps =
+    rw (lists-itemized ps)
+    (simp (length-map, tableEntries-length, mapList-length, ownedTables-length, ownedUnknowns-length, total-length (λ (p : Provider). p ∷ []), total-length (λ (p : Provider). p .descriptors), total-length (λ (p : Provider). p .unknown2), total-length (λ (p : Provider). kept (p .elements)), total-length (λ (p : Provider). unknowns (p .elements)), total-length (of-tables definitionsIn), total-length (of-tables eventsIn), total-length (of-tables mapsIn), total-length (of-tables entriesIn), total-length (of-tables templatesIn)))
 
--- one number of what some providers need
-module _ {B : Type 0} (number : Counts → ℕ) (items : Provider → List B)
-    (adds : (a b : Counts) → number (plus a b) ≡ capped (number a + number b)) (has : (p : Provider) → number (one p) ≡ length (items p)) where
-  needs-all : (c : Counts) (ps : List Provider) → number c ≤ 65537 → number (needsAll c ps) ≡ capped (number c + length (flat items ps))
-  unfolding flat needsAll
-  needs-all c [] h = omega arith
-  needs-all c (p ∷ ps) h =
-      needs-all (plus c (needsOf p)) ps (omega (arith, adds c (needsOf p)))
-      ∙ omega (arith, adds c (needsOf p), ap number (needs-one p), has p, length-append (items p) (flat items ps))
+-- what some providers need, with what is needed before them
+unfoldable added : List ℕ → List (Provider → ℕ) → List Provider → List ℕ
+added [] fs ps = []
+added (n ∷ ns) [] ps = []
+added (n ∷ ns) (f ∷ fs) ps = capped (n + total f ps) ∷ added ns fs ps
 
-  needs-from-none : number none ≡ 0 → (ps : List Provider) → number (needsAll none ps) ≡ capped (length (flat items ps))
-  needs-from-none z ps = needs-all none ps (omega arith) ∙ rw (z, zero-add)
+added-more : (ns : List ℕ) (fs : List (Provider → ℕ)) (p : Provider) (ps : List Provider) → added (plus ns (map (λ f. f p) fs)) fs ps ≡ added ns fs (p ∷ ps)
+unfolding added plus total
+added-more [] fs p ps = refl
+added-more (n ∷ ns) [] p ps = refl
+added-more (n ∷ ns) (f ∷ fs) p ps =
+    let e : capped (capped (n + f p) + total f ps) ≡ capped (n + (f p + total f ps)) = omega arith in
+    rw (e, added-more ns fs p ps)
 
-pub needed : (ps : List Provider) → needsAll none ps ≡ cappedCounts (counted (lists ps))
-needed ps = needs-numbers ∙ ap cappedCounts (sym (counted-numbers ps))
+added-none : (ns : List ℕ) (fs : List (Provider → ℕ)) → modest ns → length ns ≡ length fs → added ns fs [] ≡ ns
+unfolding added total
+added-none [] fs m h = refl
+added-none (n ∷ ns) [] m h = absurd (omega arith)
+added-none (n ∷ ns) (f ∷ fs) m h =
+    let e : capped (n + 0) ≡ n = omega (arith, m .0) in
+    rw (e, added-none ns fs (m .1) (omega arith))
+
+pub plus-modest : (ns ms : List ℕ) → modest (plus ns ms)
+unfolding plus
+plus-modest [] ms = tt
+plus-modest (n ∷ ns) [] = tt
+plus-modest (n ∷ ns) (m ∷ ms) = (omega arith, plus-modest ns ms)
+
+pub plus-length : (ns ms : List ℕ) → length ns ≡ length ms → length (plus ns ms) ≡ length ns
+unfolding plus
+plus-length [] ms h = refl
+plus-length (n ∷ ns) [] h = absurd (omega arith)
+plus-length (n ∷ ns) (m ∷ ms) h = ap suc (plus-length ns ms (omega arith))
+
+needs-added : (ns : List ℕ) (ps : List Provider) → modest ns → length ns ≡ length has → needsAll ns ps ≡ added ns has ps
+unfolding needsAll
+needs-added ns [] m h = sym (added-none ns has m h)
+needs-added ns (p ∷ ps) m h =
+    needs-added (plus ns (needsOf p)) ps (plus-modest ns (needsOf p)) (plus-length ns (needsOf p) h ∙ h) ∙ added-more ns has p ps
+
+pub needed : (ps : List Provider) → needsAll none ps ≡ map capped (counted (lists ps))
+unfolding added
+needed ps = needs-added none ps (omega arith, (omega arith, (omega arith, (omega arith, (omega arith, (omega arith, (omega arith, (omega arith, (omega arith, (omega arith, tt)))))))))) refl ∙ zeros ∙ ap (map capped) (sym (counted-has ps))
   where
-    needs-numbers : needsAll none ps ≡ cappedCounts (numbers ps)
-    needs-numbers =
-        λ i. record {
-          providers = needs-from-none (λ c. c .providers) (λ p. p ∷ []) (λ a b. refl) (λ p. refl) refl ps i;
-          descriptors = needs-from-none (λ c. c .descriptors) (λ p. p .descriptors) (λ a b. refl) (λ p. refl) refl ps i;
-          unknown2 = needs-from-none (λ c. c .unknown2) (λ p. p .unknown2) (λ a b. refl) (λ p. refl) refl ps i;
-          tables = needs-from-none (λ c. c .tables) (λ p. kept (p .elements)) (λ a b. refl) (λ p. refl) refl ps i;
-          definitions = needs-from-none (λ c. c .definitions) (of-tables definitionsIn) (λ a b. refl) (λ p. refl) refl ps i;
-          events = needs-from-none (λ c. c .events) (of-tables eventsIn) (λ a b. refl) (λ p. refl) refl ps i;
-          maps = needs-from-none (λ c. c .maps) (of-tables mapsIn) (λ a b. refl) (λ p. refl) refl ps i;
-          entries = needs-from-none (λ c. c .entries) (of-tables entriesIn) (λ a b. refl) (λ p. refl) refl ps i;
-          templates = needs-from-none (λ c. c .templates) (of-tables templatesIn) (λ a b. refl) (λ p. refl) refl ps i;
-          unknown = needs-from-none (λ c. c .unknown) (λ p. unknowns (p .elements)) (λ a b. refl) (λ p. refl) refl ps i;
-        }
+    zeros : added none has ps ≡ map capped (map (λ f. total f ps) has)
+    zeros = simp zero-add

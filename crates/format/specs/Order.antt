@@ -1,5 +1,5 @@
 -- The order of the refusals: 7 before all, then 8, then what the bytes are refused for, and 9 only for bytes that are accepted.
-use Prim.Native.Nat.{ℕ, suc, _≤_, _<_}
+use Prim.Native.Nat.{ℕ, _≤_, _<_}
 use mathlib.Core.Path.{_≡_}
 use mathlib.Core.Bool.{true, false}
 use mathlib.Core.List.{List, _∷_}
@@ -8,11 +8,11 @@ use borrow.Author.Tests.{le-leb, lt-leb}
 use Rattle.blob.specs.declared.Refusal.{Refusal}
 use Rattle.blob.specs.Reading.{done, refused, then}
 use Rattle.format.specs.Crim.{Crim, crim}
+use Rattle.format.specs.Area.{Row, rows}
 use Rattle.format.specs.Lists.{Entry, lists}
-use Rattle.format.specs.Answer.{ten, own, too-small, lent-enough, with-room, reading}
-use Rattle.format.specs.declared.Counts.{Counts}
+use Rattle.format.specs.Answer.{own, too-small, lent-enough, with-room, reading}
 
-module _ (bytes words : List ℕ) (capacities : Counts) where
+module _ (bytes words : List ℕ) (capacities : List ℕ) where
   pub seven-first : 16777216 < length bytes → reading bytes words capacities ≡ refused (own 7)
   unfolding reading
   seven-first h = rw (lt-leb (length bytes) 16777216 h)
@@ -27,17 +27,17 @@ module _ (bytes words : List ℕ) (capacities : Counts) where
       unfolding reading then
       bytes-next r g = rw (le-leb (length bytes) 16777216 h, e, g)
 
-      pub nine-last : (c : Crim) → crim bytes ≡ done c → reading bytes words capacities ≡ with-room 1 (ten capacities) (lists (c .providers)) c
+      pub nine-last : (c : Crim) → crim bytes ≡ done c → reading bytes words capacities ≡ with-room rows capacities (lists (c .providers)) c
       unfolding reading then
       nine-last c g = rw (le-leb (length bytes) 16777216 h, e, g)
 
 -- 9 names a list only where those before it have room
-pub nine-here : {A : Type 0} (n c : ℕ) (cs : List ℕ) (l : List Entry) (ls : List (List Entry)) (a : A) → c < length l
-    → with-room n (c ∷ cs) (l ∷ ls) a ≡ refused (too-small n c)
+pub nine-here : {A : Type 0} (r : Row) (rs : List Row) (c : ℕ) (cs : List ℕ) (l : List Entry) (ls : List (List Entry)) (a : A) → c < length l
+    → with-room (r ∷ rs) (c ∷ cs) (l ∷ ls) a ≡ refused (too-small (r .number) c)
 unfolding with-room
-nine-here n c cs l ls a h = rw (lt-leb (length l) c h)
+nine-here r rs c cs l ls a h = rw (lt-leb (length l) c h)
 
-pub nine-later : {A : Type 0} (n c : ℕ) (cs : List ℕ) (l : List Entry) (ls : List (List Entry)) (a : A) → length l ≤ c
-    → with-room n (c ∷ cs) (l ∷ ls) a ≡ with-room (suc n) cs ls a
+pub nine-later : {A : Type 0} (r : Row) (rs : List Row) (c : ℕ) (cs : List ℕ) (l : List Entry) (ls : List (List Entry)) (a : A) → length l ≤ c
+    → with-room (r ∷ rs) (c ∷ cs) (l ∷ ls) a ≡ with-room rs cs ls a
 unfolding with-room
-nine-later n c cs l ls a h = rw (le-leb (length l) c h)
+nine-later r rs c cs l ls a h = rw (le-leb (length l) c h)

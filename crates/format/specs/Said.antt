@@ -11,12 +11,12 @@ use Rattle.format.specs.Table.{headerRead}
 use Rattle.format.specs.Definition.{definitionRead}
 use Rattle.format.specs.Template.{templateRead}
 use Rattle.format.specs.Map.{Mapped, mapRead}
-use Rattle.format.specs.Needs.{mapsRead, tableRead, elementRead, elementsRead, providerRead, providersRead}
-use Rattle.format.specs.Provider.{Table, Element, Provider, wevtRead, descriptorRead}
+use Rattle.format.specs.Needs.{mapsRead, tableRead, elementRead}
+use Rattle.format.specs.Provider.{Table, Element, wevtRead, descriptorRead}
 use Rattle.format.specs.Crim.{crimRead}
 use Rattle.format.specs.Lists.{Entry}
 use Rattle.format.specs.Lookup.{guidsFound}
-use Rattle.format.specs.Says.{said, verdictSays, nameSays, endSays, guidsSays, headerSays, definitionSays, tempSays, mapSays, entriesSays, elementsSays, needsSays, crimSays, wevtSays, descriptorSays}
+use Rattle.format.specs.Says.{said, verdictSays, nameSays, endSays, guidsSays, headerSays, definitionSays, tempSays, mapSays, entriesSays, crimSays, wevtSays, descriptorSays}
 use Rattle.format.specs.declared.Name.{Name}
 use Rattle.format.specs.declared.Header.{Header}
 use Rattle.format.specs.declared.Definition.{Definition}
@@ -63,15 +63,6 @@ table-says o = answer-says entriesSays _ _ (λ a. refl) (λ r. refl) o
 
 pub element-says : (o : Outcome Element) → entriesSays (elementRead o) ≡ said o
 element-says o = answer-says entriesSays _ _ (λ a. refl) (λ r. refl) o
-
-pub elements-says : (o : Outcome (List Element)) → elementsSays (elementsRead o) ≡ said o
-elements-says o = answer-says elementsSays _ _ (λ a. refl) (λ r. refl) o
-
-pub provider-says : (o : Outcome Provider) → needsSays (providerRead o) ≡ said o
-provider-says o = answer-says needsSays _ _ (λ a. refl) (λ r. refl) o
-
-pub providers-says : (o : Outcome (List Provider)) → needsSays (providersRead o) ≡ said o
-providers-says o = answer-says needsSays _ _ (λ a. refl) (λ r. refl) o
 
 pub crim-says : (o : Outcome CrimHeader) → crimSays (crimRead o) ≡ said o
 crim-says o = answer-says crimSays _ _ (λ a. refl) (λ r. refl) o

@@ -25,10 +25,6 @@ use Rattle.format.specs.declared.WevtRead.{WevtRead}
 use Rattle.format.specs.declared.WevtRead.the-variants as wevts
 use Rattle.format.specs.declared.DescriptorRead.{DescriptorRead}
 use Rattle.format.specs.declared.DescriptorRead.the-variants as descriptors
-use Rattle.format.specs.declared.ElementsRead.{ElementsRead}
-use Rattle.format.specs.declared.ElementsRead.the-variants as elements
-use Rattle.format.specs.declared.NeedsRead.{NeedsRead}
-use Rattle.format.specs.declared.NeedsRead.the-variants as needed
 use Rattle.format.specs.declared.CrimRead.{CrimRead}
 use Rattle.format.specs.declared.CrimRead.the-variants as crims
 use Rattle.format.specs.declared.TemplateFound.{TemplateFound}
@@ -80,14 +76,6 @@ mapSays (maps.Refused r) = r
 abbrev pub entriesSays : EntriesRead → Refusal
 entriesSays (entries.Entries n) = fine
 entriesSays (entries.Refused r) = r
-
-abbrev pub elementsSays : ElementsRead → Refusal
-elementsSays (elements.Fine u n) = fine
-elementsSays (elements.Refused r) = r
-
-abbrev pub needsSays : NeedsRead → Refusal
-needsSays (needed.Needs c) = fine
-needsSays (needed.Refused r) = r
 
 abbrev pub crimSays : CrimRead → Refusal
 crimSays (crims.Header h) = fine

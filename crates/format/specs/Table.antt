@@ -5,6 +5,8 @@ use mathlib.Core.List.{List, [], _∷_}
 use lib.ListN.{getD}
 use lib.Dec.{leb, eqb}
 use Rattle.blob.specs.Reading.{Reading, got, Outcome, choose, demand, _>>=_, number, answer}
+use Rattle.format.specs.Area as area
+use Rattle.format.specs.Area.{DEFINITIONS, EVENTS, TEMPLATES}
 use Rattle.format.specs.Field.{table-offset, table-header, table-size, table-array}
 use Rattle.format.specs.Refuse.{whole, within, wrong-signature, size-out}
 use Rattle.format.specs.Region.{bounded}
@@ -51,6 +53,10 @@ kindIn (k ∷ ks) s = choose (eqb s (signature k)) k (kindIn ks s)
 
 abbrev pub kindOf : ℕ → ℕ
 kindOf s = kindIn kinds s
+
+-- the list that a kind's tables have their entries in
+abbrev pub kindList : ℕ → ℕ
+kindList k = getD (0 ∷ DEFINITIONS ∷ EVENTS ∷ DEFINITIONS ∷ DEFINITIONS ∷ area.MAPS ∷ DEFINITIONS ∷ DEFINITIONS ∷ TEMPLATES ∷ []) k 0
 
 -- the bytes before the first record: "records from 12 (EVNT from 16)"; "MAPS (16 bytes ..)"
 abbrev pub header-length : ℕ → ℕ

@@ -1,7 +1,13 @@
 // The types that the definition of the format speaks of, and that the code reads into. What is right stands in specs/.
 use blob::Refusal;
+use blob::Verdict;
+use list::AREAS;
 
+pub mod entry;
 pub mod field;
+pub mod kind;
+pub mod list;
+pub mod signature;
 
 // A GUID: its 16 bytes as little-endian words.
 pub struct Guid {
@@ -177,49 +183,18 @@ pub struct Unknown {
     pub size: u32,
 }
 
-// What checking a provider's elements finds: how many are of no known kind, and how many map entries the MAPS that is kept has, where it
-// stops rising at 65,537.
-pub enum ElementsRead {
-    Fine(u32, u32),
-    Refused(Refusal),
-}
-
-// How many entries were written before: tables, and the entries that they have in the lists of their kinds.
-pub struct Written {
-    pub tables: u32,
-    pub definitions: u32,
-    pub events: u32,
-    pub maps: u32,
-    pub templates: u32,
-}
-
-// How far the filling of a list has come: the provider's number, the tables and the map entries that were written before, and where in
-// the list's area the next entry goes.
+// How far the filling of a list has come: the provider's number, how many entries were written before in lists that its entries point
+// into, and where in the list's area the next entry goes.
 pub struct Walk {
     pub number: u32,
-    pub written: Written,
-    pub entries: u32,
+    pub before: [u32; AREAS],
     pub to: usize,
 }
 
-// A number for each of the ten lists, in list order: entry counts, or capacities.
-pub struct Counts {
-    pub providers: u32,
-    pub descriptors: u32,
-    pub unknown2: u32,
-    pub tables: u32,
-    pub definitions: u32,
-    pub events: u32,
-    pub maps: u32,
-    pub entries: u32,
-    pub templates: u32,
-    pub unknown: u32,
-}
-
-// What checking a provider, or a run of them, finds: how many entries each list needs for it, where each number stops rising at 65,537.
-pub enum NeedsRead {
-    Needs(Counts),
-    Refused(Refusal),
+// What checking the providers finds: how many entries each list needs for them, where each number stops rising at 65,537.
+pub struct Needed {
+    pub verdict: Verdict,
+    pub counts: [u32; AREAS],
 }
 
 // The header of the CRIM block.
@@ -243,7 +218,7 @@ pub struct Answer {
     pub place: u64,
     pub first: u64,
     pub second: u64,
-    pub counts: Counts,
+    pub counts: [u32; AREAS],
 }
 
 // What an event is looked up by.

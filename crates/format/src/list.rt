@@ -1,0 +1,64 @@
+// The lists that have an area in the lent words, a row for each: its number, and the words of its entries. specs/Area.antt says the same.
+pub const AREAS: usize = 10;
+
+pub const NUMBERS: [u32; AREAS] = [
+    PROVIDERS,
+    DESCRIPTORS,
+    UNKNOWN2,
+    TABLES,
+    DEFINITIONS,
+    EVENTS,
+    MAPS,
+    ENTRIES,
+    TEMPLATES,
+    UNKNOWN,
+];
+
+pub const WORDS: [u32; AREAS] = [9, 3, 1, 9, 12, 16, 11, 2, 12, 4];
+
+// The numbers.
+pub const PROVIDERS: u32 = 1;
+
+pub const DESCRIPTORS: u32 = 2;
+
+pub const UNKNOWN2: u32 = 3;
+
+pub const TABLES: u32 = 4;
+
+pub const DEFINITIONS: u32 = 5;
+
+pub const EVENTS: u32 = 6;
+
+pub const MAPS: u32 = 7;
+
+pub const ENTRIES: u32 = 8;
+
+pub const TEMPLATES: u32 = 9;
+
+pub const UNKNOWN: u32 = 10;
+
+// Which row is a list's: where its number stands among those of all lists.
+pub mod row {
+    pub const PROVIDERS: usize = 0;
+
+    pub const DESCRIPTORS: usize = 1;
+
+    pub const UNKNOWN2: usize = 2;
+
+    pub const TABLES: usize = 3;
+
+    pub const DEFINITIONS: usize = 4;
+
+    pub const EVENTS: usize = 5;
+
+    pub const MAPS: usize = 6;
+
+    pub const ENTRIES: usize = 7;
+
+    pub const TEMPLATES: usize = 8;
+
+    pub const UNKNOWN: usize = 9;
+}
+
+// The most entries that a list can be lent.
+pub const MOST: u32 = 65536;
