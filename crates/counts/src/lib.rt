@@ -1,218 +1,127 @@
-// Numbers of entries: what the lists need, added up and held against what the caller lends, and what was written of tables.
+// Numbers of entries, one for each list that has an area, in the order of the rows: what the lists need, added up and held against what
+// the caller lends.
 ghost use mathlib.Core.Path.{_≡_};
 ghost use mathlib.Core.Bool.{_&&_};
-ghost use Prim.Native.Nat.{_*_, _≤_};
+ghost use Prim.Native.Nat.{_*_, _≤_, _<_};
 ghost use lib.Dec.{leb};
-ghost use Rattle.blob.specs.Reading.{choose};
-ghost use Rattle.blob.specs.declared.Verdict.the-variants as verdicts;
+ghost use lib.ListN.{take, getD};
+ghost use Rattle.format.specs.Area as area;
 ghost use Rattle.format.specs.Answer as answer;
 ghost use Rattle.format.specs.Needs as needs;
-ghost use Rattle.counts.specs.Short.{short};
+ghost use Rattle.format.specs.Table.{kindList};
+ghost use Rattle.counts.specs.Short.{widths, numbers, short};
 use blob::Refusal;
 use blob::Verdict;
-use format::Counts;
-use format::Written;
+use format::kind::KINDS;
+use format::list::AREAS;
+use format::list::MOST;
+use format::list::NUMBERS;
+use format::list::WORDS;
+use format::list::row;
 
-// Kinds, by their numbers.
-const EVNT: u32 = 2;
+// Which row has the entries of a kind's tables.
+const ROWS: [usize; KINDS] = [
+    AREAS,
+    row::DEFINITIONS,
+    row::EVENTS,
+    row::DEFINITIONS,
+    row::DEFINITIONS,
+    row::MAPS,
+    row::DEFINITIONS,
+    row::DEFINITIONS,
+    row::TEMPLATES,
+];
 
-const MAPS: u32 = 5;
-
-const TTBL: u32 = 8;
-
-// Nothing is needed.
-pub fn none() -> Counts
-    ensures { λ r. ⌜ r ≡ needs.none ⌝ }
+pub fn row_of(kind: u32) -> usize
+    requires { ⌜ (1 ≤ kind) × (kind ≤ 8) ⌝ }
+    ensures { λ r. ⌜ (r ≡ area.place (kindList kind)) × (r < 10) ⌝ }
 {
-    Counts {
-        providers: 0,
-        descriptors: 0,
-        unknown2: 0,
-        tables: 0,
-        definitions: 0,
-        events: 0,
-        maps: 0,
-        entries: 0,
-        templates: 0,
-        unknown: 0,
-    }
+    ROWS[kind as usize]
 }
 
 // What is needed with some more, as far as anyone asks.
-pub fn plus(a: Counts, b: Counts) -> Counts
-    requires { ⌜ needs.modest a ⌝ }
-    ensures { λ r. ⌜ r ≡ needs.plus a b ⌝ }
+pub fn add(all: [u32; AREAS], more: [u32; AREAS]) -> [u32; AREAS]
+    requires { ⌜ needs.modest all ⌝ }
+    ensures { λ r. ⌜ r ≡ needs.plus all more ⌝ }
 {
-    Counts {
-        providers: bounds::sum(a.providers, b.providers),
-        descriptors: bounds::sum(a.descriptors, b.descriptors),
-        unknown2: bounds::sum(a.unknown2, b.unknown2),
-        tables: bounds::sum(a.tables, b.tables),
-        definitions: bounds::sum(a.definitions, b.definitions),
-        events: bounds::sum(a.events, b.events),
-        maps: bounds::sum(a.maps, b.maps),
-        entries: bounds::sum(a.entries, b.entries),
-        templates: bounds::sum(a.templates, b.templates),
-        unknown: bounds::sum(a.unknown, b.unknown),
+    let mut sums = all;
+    let mut i = 0;
+    while i < AREAS {
+        sums[i] = bounds::sum(sums[i], more[i]);
+        i += 1;
     }
+    sums
 }
 
-// What is written with one more table of a kind, of so many entries, as far as anyone asks.
-pub fn wrote(w: Written, kind: u32, n: u32) -> Written
-    requires { ⌜ needs.small w ⌝ }
-    ensures { λ r. ⌜ r ≡ needs.cappedWritten (needs.with-table w kind n) ⌝ }
+// The words of an entry, and the number of its list, by the list's row.
+pub fn width_of(row: usize) -> u32
+    requires { ⌜ row < 10 ⌝ }
+    ensures { λ r. ⌜ (r ≡ getD widths row 0) × (r ≤ 16) ⌝ }
 {
-    let tables = bounds::sum(w.tables, 1);
-    match kind {
-        EVNT => Written {
-            tables,
-            definitions: w.definitions,
-            events: bounds::sum(w.events, n),
-            maps: w.maps,
-            templates: w.templates,
-        },
-        MAPS => Written {
-            tables,
-            definitions: w.definitions,
-            events: w.events,
-            maps: bounds::sum(w.maps, n),
-            templates: w.templates,
-        },
-        TTBL => Written {
-            tables,
-            definitions: w.definitions,
-            events: w.events,
-            maps: w.maps,
-            templates: bounds::sum(w.templates, n),
-        },
-        _ => Written {
-            tables,
-            definitions: bounds::sum(w.definitions, n),
-            events: w.events,
-            maps: w.maps,
-            templates: w.templates,
-        },
-    }
+    WORDS[row]
 }
 
-// Whether a capacity is one, and the rest holds.
-fn one_moderate(capacity: u32, rest: bool) -> bool
-    ensures { λ r. ⌜ r ≡ (leb capacity 65536 && rest) ⌝ }
+pub fn number_of(row: usize) -> u32
+    requires { ⌜ row < 10 ⌝ }
+    ensures { λ r. ⌜ r ≡ getD numbers row 0 ⌝ }
 {
-    if capacity <= 65536 {
-        return rest;
-    }
-    false
+    NUMBERS[row]
 }
 
-// Whether no capacity is over 65,536.
-fn moderate(c: Counts) -> bool
-    ensures { λ r. ⌜ r ≡ answer.moderate (answer.ten c) ⌝ }
+// The words of so many entries of a list.
+pub fn words_of(entries: u32, row: usize) -> usize
+    requires { ⌜ row < 10 ⌝ }
+    ensures { λ r. ⌜ (r ≡ entries * getD widths row 0) × (r ≤ 68719476720) ⌝ }
 {
-    let upper = one_moderate(
-        c.events,
-        one_moderate(
-            c.maps,
-            one_moderate(
-                c.entries,
-                one_moderate(c.templates, one_moderate(c.unknown, true)),
-            ),
-        ),
-    );
-    one_moderate(
-        c.providers,
-        one_moderate(
-            c.descriptors,
-            one_moderate(
-                c.unknown2,
-                one_moderate(c.tables, one_moderate(c.definitions, upper)),
-            ),
-        ),
-    )
-}
-
-// The ten numbers, in list order.
-pub fn ten(c: Counts) -> [u32; 10]
-    ensures { λ r. ⌜ r ≡ answer.ten c ⌝ }
-{
-    [
-        c.providers,
-        c.descriptors,
-        c.unknown2,
-        c.tables,
-        c.definitions,
-        c.events,
-        c.maps,
-        c.entries,
-        c.templates,
-        c.unknown,
-    ]
-}
-
-// The words of an entry of each list.
-pub fn widths() -> [u32; 10]
-    ensures { λ r. ⌜ r ≡ answer.widths ⌝ }
-{
-    [9, 3, 1, 9, 12, 16, 11, 2, 12, 4]
-}
-
-// The words of an area.
-pub fn area(capacity: u32, width: u32) -> usize
-    requires { ⌜ width ≤ 16 ⌝ }
-    ensures { λ r. ⌜ (r ≡ capacity * width) × (r ≤ 68719476720) ⌝ }
-{
-    (capacity as usize) * (width as usize)
-}
-
-// The words of all ten.
-fn areas(c: Counts) -> usize
-    ensures { λ r. ⌜ r ≡ answer.areas (answer.ten c) answer.widths ⌝ }
-{
-    let upper = area(c.events, 16)
-        + (area(c.maps, 11) + (area(c.entries, 2) + (area(c.templates, 12) + area(c.unknown, 4))));
-    area(c.providers, 9)
-        + (area(c.descriptors, 3)
-            + (area(c.unknown2, 1) + (area(c.tables, 9) + (area(c.definitions, 12) + upper))))
+    (entries as usize) * (width_of(row) as usize)
 }
 
 // Whether the capacities, and so many lent words, will do.
-pub fn lent_enough(c: Counts, words: usize) -> bool
-    ensures { λ r. ⌜ r ≡ (answer.moderate (answer.ten c) && leb (answer.areas (answer.ten c) answer.widths) words) ⌝ }
+pub fn lent_enough(c: [u32; AREAS], words: usize) -> bool
+    ensures { λ r. ⌜ r ≡ (answer.moderate c && leb (answer.areas area.rows c) words) ⌝ }
 {
-    if moderate(c) {
-        return areas(c) <= words;
+    let mut sum = 0;
+    let mut i = 0;
+    while i < AREAS {
+        if MOST < c[i] {
+            return false;
+        }
+        sum += words_of(c[i], i);
+        i += 1;
     }
-    false
+    sum <= words
 }
 
-// The verdict of one list, by what it needs and its capacity, before that of the rest.
-fn one_room(list: u64, capacity: u32, need: u32, rest: Verdict) -> Verdict
-    ensures { λ r. ⌜ r ≡ choose (leb need capacity) rest (verdicts.Refused (answer.too-small list capacity)) ⌝ }
+// Where the area of a row starts: those before it end there.
+pub fn area_at(c: [u32; AREAS], row: usize) -> usize
+    requires { ⌜ row < 10 ⌝ }
+    ensures { λ r. ⌜ (r ≡ answer.areas area.rows (take row c)) × (r ≤ 687194767200) ⌝ }
 {
-    if need <= capacity {
-        return rest;
+    let mut sum = 0;
+    let mut i = 0;
+    while i < row {
+        sum += words_of(c[i], i);
+        i += 1;
     }
-    Verdict::Refused(Refusal {
-        code: 9,
-        field: 0,
-        place: 0,
-        first: list,
-        second: capacity as u64,
-    })
+    sum
 }
 
 // Whether each list has room for what it needs; else 9, for the lowest-numbered list that has not.
-pub fn room(c: Counts, needs: Counts) -> Verdict
-    ensures { λ r. ⌜ r ≡ short 1 (answer.ten c) (answer.ten needs) ⌝ }
+pub fn room(c: [u32; AREAS], needs: [u32; AREAS]) -> Verdict
+    ensures { λ r. ⌜ r ≡ short area.rows c needs ⌝ }
 {
-    let v = one_room(10, c.unknown, needs.unknown, Verdict::Fine);
-    let v = one_room(9, c.templates, needs.templates, v);
-    let v = one_room(8, c.entries, needs.entries, v);
-    let v = one_room(7, c.maps, needs.maps, v);
-    let v = one_room(6, c.events, needs.events, v);
-    let v = one_room(5, c.definitions, needs.definitions, v);
-    let v = one_room(4, c.tables, needs.tables, v);
-    let v = one_room(3, c.unknown2, needs.unknown2, v);
-    let v = one_room(2, c.descriptors, needs.descriptors, v);
-    one_room(1, c.providers, needs.providers, v)
+    let mut i = 0;
+    while i < AREAS {
+        if c[i] < needs[i] {
+            return Verdict::Refused(Refusal {
+                code: 9,
+                field: 0,
+                place: 0,
+                first: number_of(i) as u64,
+                second: c[i] as u64,
+            });
+        }
+        i += 1;
+    }
+    Verdict::Fine
 }

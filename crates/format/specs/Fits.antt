@@ -63,16 +63,33 @@ words i = getD (map (λ r. r .words) rows) i 0
 pub lists-wide : (ps : List Provider) (i : ℕ) → i < length rows → Wide (words i) (getD (lists ps) i [])
 lists-wide ps =
     rw (lists-itemized ps) (first (λ i. Wide (words i) (getD (itemized ps) i [])) (length rows) (
-    wide-map 9 providerWords (λ p. refl) (flat (λ p. p ∷ []) ps),
-    (wide-map 3 descriptorWords (λ d. refl) (flat (λ p. p .descriptors) ps),
-    (wide-map 1 unknown2Words (λ w. refl) (flat (λ p. p .unknown2) ps),
-    (wide-tables none (ownedTables 0 ps),
-    (wide-map 12 definitionWords (λ d. refl) (flat (of-tables definitionsIn) ps),
-    (wide-map 16 eventWords (λ e. refl) (flat (of-tables eventsIn) ps),
-    (wide-maps 0 (flat (of-tables mapsIn) ps),
-    (wide-map 2 mapEntryWords (λ e. refl) (flat (of-tables entriesIn) ps),
-    (wide-map 12 templateWords (λ t. refl) (flat (of-tables templatesIn) ps),
-    (wide-unknowns 0 ps, tt)))))))))))
+      wide-map 9 providerWords (λ p. refl) (flat (λ p. p ∷ []) ps),
+      (
+        wide-map 3 descriptorWords (λ d. refl) (flat (λ p. p .descriptors) ps),
+        (
+          wide-map 1 unknown2Words (λ w. refl) (flat (λ p. p .unknown2) ps),
+          (
+            wide-tables none (ownedTables 0 ps),
+            (
+              wide-map 12 definitionWords (λ d. refl) (flat (of-tables definitionsIn) ps),
+              (
+                wide-map 16 eventWords (λ e. refl) (flat (of-tables eventsIn) ps),
+                (
+                  wide-maps 0 (flat (of-tables mapsIn) ps),
+                  (
+                    wide-map 2 mapEntryWords (λ e. refl) (flat (of-tables entriesIn) ps),
+                    (
+                      wide-map 12 templateWords (λ t. refl) (flat (of-tables templatesIn) ps),
+                      (wide-unknowns 0 ps, tt),
+                    ),
+                  ),
+                ),
+              ),
+            ),
+          ),
+        ),
+      ),
+    ))
 
 pub parts-wide : (ps : List Provider) (i : ℕ) → i < length rows → length (parts (number i) start ps) ≡ words i * length (getD (lists ps) i [])
 parts-wide ps i h = ap length (sym (listed ps i h)) ∙ wide-length (lists-wide ps i h)
@@ -140,16 +157,57 @@ module _ (ps : List Provider) (f : Few (counted (lists ps))) where
       go true m e g =
           rw (eqb-true l TABLES e, tables-end ps)
           (each-few (0 ∷ 0 ∷ 0 ∷ 0 ∷ length (flat (of-tables definitionsIn) ps) ∷ length (flat (of-tables eventsIn) ps) ∷ length (flat (of-tables mapsIn) ps) ∷ 0 ∷ length (flat (of-tables templatesIn) ps) ∷ 0 ∷ []) (
-          none-few, (none-few, (none-few, (none-few, (
-          few-of 4 (of-tables definitionsIn) refl, (
-          few-of 5 (of-tables eventsIn) refl, (
-          few-of 6 (of-tables mapsIn) refl, (
-          none-few, (few-of 8 (of-tables templatesIn) refl, (none-few, tt)))))))))))
+            none-few,
+            (
+              none-few,
+              (
+                none-few,
+                (
+                  none-few,
+                  (
+                    few-of 4 (of-tables definitionsIn) refl,
+                    (
+                      few-of 5 (of-tables eventsIn) refl,
+                      (
+                        few-of 6 (of-tables mapsIn) refl,
+                        (
+                          none-few,
+                          (few-of 8 (of-tables templatesIn) refl, (none-few, tt)),
+                        ),
+                      ),
+                    ),
+                  ),
+                ),
+              ),
+            ),
+          ))
       go false true e g =
           rw (eqb-true l MAPS g, maps-end ps)
           (each-few (0 ∷ 0 ∷ 0 ∷ 0 ∷ 0 ∷ 0 ∷ 0 ∷ length (flat (of-tables entriesIn) ps) ∷ 0 ∷ 0 ∷ []) (
-          none-few, (none-few, (none-few, (none-few, (none-few, (none-few, (none-few, (
-          few-of 7 (of-tables entriesIn) refl, (none-few, (none-few, tt)))))))))))
+            none-few,
+            (
+              none-few,
+              (
+                none-few,
+                (
+                  none-few,
+                  (
+                    none-few,
+                    (
+                      none-few,
+                      (
+                        none-few,
+                        (
+                          few-of 7 (of-tables entriesIn) refl,
+                          (none-few, (none-few, tt)),
+                        ),
+                      ),
+                    ),
+                  ),
+                ),
+              ),
+            ),
+          ))
       go false false e g =
           rw (behindAll-same l e g none (tables ps))
           (each-few none (none-few, (none-few, (none-few, (none-few, (none-few, (none-few, (none-few, (none-few, (none-few, (none-few, tt)))))))))))

@@ -145,7 +145,7 @@ maps-parts w [] h = refl
 maps-parts w (p ∷ ps) h =
     maps-then w (kept (p .elements)) (flat (of-tables mapsIn) ps) h
     ∙ ap (λ (r : List ℕ). part MAPS w p ++ r) (maps-parts (passed MAPS w p) ps (
-      ap (λ (v : Walk). length (v .before)) (walkedAll-ahead MAPS w (kept (p .elements))) ∙ behindAll-length MAPS (w .before) (kept (p .elements)) ∙ h))
+    ap (λ (v : Walk). length (v .before)) (walkedAll-ahead MAPS w (kept (p .elements))) ∙ behindAll-length MAPS (w .before) (kept (p .elements)) ∙ h))
 
 -- list 10: an unknown element has its provider's number
 unknown-parts : (w : Walk) (ps : List Provider) → flat (λ e. e) (ownedUnknowns (w .number) ps) ≡ parts UNKNOWN w ps
@@ -176,13 +176,30 @@ pub listed : (ps : List Provider) (i : ℕ) → i < length rows → flat (λ e. 
 unfolding flat part tablePart
 listed ps =
     rw (lists-itemized ps) (first (λ i. flat (λ e. e) (getD (itemized ps) i []) ≡ parts (number i) start ps) (length rows) (
-    plain-parts PROVIDERS providerWords (λ p. p ∷ []) (λ w p. refl) start ps,
-    (plain-parts DESCRIPTORS descriptorWords (λ p. p .descriptors) (λ w p. refl) start ps,
-    (plain-parts UNKNOWN2 unknown2Words (λ p. p .unknown2) (λ w p. refl) start ps,
-    (tables-parts start ps,
-    (table-parts DEFINITIONS definitionWords definitionsIn (λ w t. refl) (λ w p. refl) start ps,
-    (table-parts EVENTS eventWords eventsIn (λ w t. refl) (λ w p. refl) start ps,
-    (maps-parts start ps refl,
-    (table-parts ENTRIES mapEntryWords entriesIn (λ w t. flat-flat mapEntryWords (λ m. m .entries) (mapsIn (t .rows))) (λ w p. refl) start ps,
-    (table-parts TEMPLATES templateWords templatesIn (λ w t. refl) (λ w p. refl) start ps,
-    (unknown-parts start ps, tt)))))))))))
+      plain-parts PROVIDERS providerWords (λ p. p ∷ []) (λ w p. refl) start ps,
+      (
+        plain-parts DESCRIPTORS descriptorWords (λ p. p .descriptors) (λ w p. refl) start ps,
+        (
+          plain-parts UNKNOWN2 unknown2Words (λ p. p .unknown2) (λ w p. refl) start ps,
+          (
+            tables-parts start ps,
+            (
+              table-parts DEFINITIONS definitionWords definitionsIn (λ w t. refl) (λ w p. refl) start ps,
+              (
+                table-parts EVENTS eventWords eventsIn (λ w t. refl) (λ w p. refl) start ps,
+                (
+                  maps-parts start ps refl,
+                  (
+                    table-parts ENTRIES mapEntryWords entriesIn (λ w t. flat-flat mapEntryWords (λ m. m .entries) (mapsIn (t .rows))) (λ w p. refl) start ps,
+                    (
+                      table-parts TEMPLATES templateWords templatesIn (λ w t. refl) (λ w p. refl) start ps,
+                      (unknown-parts start ps, tt),
+                    ),
+                  ),
+                ),
+              ),
+            ),
+          ),
+        ),
+      ),
+    ))

@@ -1,0 +1,66 @@
+-- Row by row.
+use Prim.Native.Nat.{_-_, _*_, _≤_}
+use mathlib.Core.Path.{_≡_, refl, ap, _∙_}
+use lib.ListN.{length, take}
+use Rattle.format.specs.Area.{rows}
+use Rattle.format.specs.Answer.{areas}
+use Rattle.counts.specs.Short.{areas-next}
+use borrow.Author.Needs.{needs}
+use native.Mathlib.Omega.{arith}
+use Rattle.counts.proofs.area_at.Statement.{statement}
+use Rattle.counts.proofs.area_at.Tie as tie
+use Rattle.counts.proofs.words_of.Reads as words-of-reads
+
+abbrev Inv-loop : tie.InvT-loop
+Inv-loop row c sum₀ i₀ sum i = (i ≤ row) × (length c ≡ 10) × (sum ≡ areas rows (take i c)) × (sum ≤ i * 68719476720)
+
+abbrev μ-loop : tie.MeasureT-loop
+μ-loop row c sum₀ i₀ sum i = row - i
+
+loop-holds : tie.Need-loop-holds Inv-loop μ-loop
+loop-holds c = (omega arith, omega arith, unfold areas in refl, omega arith)
+
+mul-words-of : tie.Need-mul-words-of Inv-loop μ-loop
+mul-words-of c = search needs
+
+array-read-words-of : tie.Need-array-read-words-of Inv-loop μ-loop
+array-read-words-of c = search needs
+
+words-of-requires : tie.Need-words-of-requires Inv-loop μ-loop
+words-of-requires c κs = search needs
+
+add-sum : tie.Need-add-sum Inv-loop μ-loop
+add-sum c = search needs
+
+add-i : tie.Need-add-i Inv-loop μ-loop
+add-i c = search needs
+
+loop-less : tie.Need-loop-less Inv-loop μ-loop
+loop-less c = search needs
+
+loop-again : tie.Need-loop-again Inv-loop μ-loop
+loop-again c =
+    let m = c .before .before .loop in
+    (omega arith, m .inv .1, omega (arith, c .words-of .ensures .0, areas-next rows (c .before .before .before .args .t1) (m .i) (omega arith) (omega arith)), omega (arith, c .words-of .ensures .1))
+
+returns : tie.Need-returns Inv-loop μ-loop
+returns c =
+    let m = c .before .loop in
+    let e : m .i ≡ c .before .before .args .row = omega arith in
+    (m .inv .2 ∙ ap (λ i. areas rows (take i (c .before .before .args .t1))) e, omega arith)
+
+pub area-at-spec : {M : Type 1} → statement M
+area-at-spec =
+    tie.close
+    (tie.spec
+    Inv-loop
+    μ-loop
+    loop-holds
+    mul-words-of
+    array-read-words-of
+    words-of-requires
+    add-sum
+    add-i
+    loop-less
+    loop-again
+    returns)
