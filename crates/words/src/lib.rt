@@ -22,6 +22,18 @@ pub fn guid_at(b: &[u8], at: usize) -> Guid
     }
 }
 
+// Stores an entry, of any number of words, from a place of the area on.
+pub fn put(area: &mut [u32], to: usize, entry: &[u32])
+    requires { ⌜ to + length (now entry) ≤ length (now area) ⌝ }
+    ensures { λ _. ⌜ now (area .exit) ≡ laid (now (area .entry)) to (now (entry .entry)) ⌝ }
+{
+    let mut i = 0;
+    while i < entry.len() {
+        area[to + i] = entry[i];
+        i += 1;
+    }
+}
+
 // Stores four words from a place of the area on.
 pub fn put_four(area: &mut [u32], to: usize, w: u32, x: u32, y: u32, z: u32)
     requires { ⌜ to + 4 ≤ length (now area) ⌝ }
