@@ -39,6 +39,17 @@ pub fn row_of(kind: u32) -> usize
     ROWS[kind as usize]
 }
 
+// With so many more in the list of a kind's entries, as far as anyone asks.
+pub fn grow(ns: [u32; AREAS], kind: u32, n: u32) -> [u32; AREAS]
+    requires { ⌜ (1 ≤ kind) × (kind ≤ 8) × needs.modest ns ⌝ }
+    ensures { λ r. ⌜ r ≡ needs.grown (kindList kind) n ns ⌝ }
+{
+    let i = row_of(kind);
+    let mut out = ns;
+    out[i] = bounds::sum(out[i], n);
+    out
+}
+
 // What is needed with some more, as far as anyone asks.
 pub fn add(all: [u32; AREAS], more: [u32; AREAS]) -> [u32; AREAS]
     requires { ⌜ needs.modest all ⌝ }

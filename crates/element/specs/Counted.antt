@@ -2,9 +2,9 @@
 use Prim.Native.Nat.{ℕ, _+_, _-_, _≤_, _<_}
 use mathlib.Core.Path.{_≡_, refl, ap, ap₂, sym, _∙_}
 use mathlib.Core.Bool.{Bool, true, false}
-use mathlib.Core.List.{List, [], _∷_, _++_}
+use mathlib.Core.List.{List, [], _∷_, _++_, map}
 use native.Mathlib.Omega.{arith}
-use lib.ListN.{length}
+use lib.ListN.{length, set, replicate}
 use lib.Dec.{eqb}
 use borrow.Author.Tests.{eqb-true, eqb-false}
 use Rattle.blob.specs.Le.{le}
@@ -15,23 +15,41 @@ use Rattle.blob.specs.Reading.{Outcome, done, refused, choose, run, many, answe
 use Rattle.format.specs.Table.{CHAN, EVNT, KEYW, LEVL, MAPS, OPCO, TASK, TTBL, kindOf}
 use Rattle.format.specs.Definition.{step}
 use Rattle.format.specs.Provider.{Table, Element, table, unknown, descriptorAt, elementOf, elementAt, elementsFrom}
-use Rattle.format.specs.Lists.{lastOf, or-else, kept, unknowns, mapsIn}
+use Rattle.format.specs.Lists.{lastOf, or-else, kept, unknowns, definitionsIn, eventsIn, mapsIn, templatesIn}
 use Rattle.format.specs.Answer.{capped}
-use Rattle.format.specs.Needs.{entryCount, entriesAll, entriesOf, elementRead, elementsRead}
+use Rattle.format.specs.Area as area
+use Rattle.format.specs.Needs.{entryCount, entriesAll, entriesIn, entriesOf, elementRead}
 use Rattle.format.specs.declared.Descriptor.{Descriptor}
 use Rattle.format.specs.declared.EntriesRead.the-variants as entries
-use Rattle.format.specs.declared.ElementsRead.{ElementsRead}
-use Rattle.format.specs.declared.ElementsRead.the-variants as elements
+use Rattle.format.specs.declared.Needed.{Needed}
+use Rattle.element.specs.declared.Elements.{Elements}
 use Rattle.element.specs.Tables.{kind-most, is-unknown, is-table, kept-one}
 use Rattle.element.specs.Elements.{from-none, from-stop, from-told, lastOr, last-here, last-other}
+use Rattle.element.specs.Places.{placed, placed-one}
+use Rattle.element.specs.Sums.{grownAll, grown-all}
+use Rattle.format.specs.Needed.{after-all, entries-all}
+use Rattle.blob.specs.Laws.{not-fine}
+use native.Mathlib.Nat.{zero-add}
 
 -- the map entries of a table, as far as they are counted
 abbrev pub held : Table → ℕ
 held t = capped (entryCount (mapsIn (t .rows)))
 
--- what the code answers once so many elements of no known kind were counted, and so many entries of the last MAPS
-abbrev pub readFrom : ℕ → ℕ → Outcome (List Element) → ElementsRead
-readFrom u n o = answer (λ es. elements.Fine (u + length (unknowns es)) (lastOr held n (lastOf MAPS es))) elements.Refused o
+-- what the code answers for a provider's elements: no place where none is kept
+abbrev pub nowhere : List ℕ
+nowhere = replicate 9 4294967295
+
+abbrev pub none : Refusal → Elements
+none r = record { verdict = verdicts.Refused r; unknown = 0; entries = 0; places = nowhere }
+
+abbrev pub elementsRead : Outcome (List Element) → Elements
+elementsRead o =
+    answer (λ es. record { verdict = verdicts.Fine; unknown = length (unknowns es); entries = capped (entriesAll 0 (lastOf MAPS es)); places = placed nowhere es }) none o
+
+-- and once so many elements of no known kind were counted, and so many entries of the last MAPS, and these places were known
+abbrev pub readFrom : ℕ → ℕ → List ℕ → Outcome (List Element) → Elements
+readFrom u n ps o =
+    answer (λ es. record { verdict = verdicts.Fine; unknown = u + length (unknowns es); entries = lastOr held n (lastOf MAPS es); places = placed ps es }) none o
 
 held-last : (k : ℕ) (es : List Element) → capped (entriesAll 0 (lastOf k es)) ≡ lastOr held 0 (lastOf k es)
 unfolding lastOf entriesAll
@@ -45,13 +63,14 @@ held-last k (table t ∷ es) = go (lastOf k es) (eqb (t .kind) k) (held-last k e
     go [] false ih = refl
     go (y ∷ ys) b ih = ih
 
-pub read-all : (o : Outcome (List Element)) → elementsRead o ≡ readFrom 0 0 o
+pub read-all : (o : Outcome (List Element)) → elementsRead o ≡ readFrom 0 0 nowhere o
 read-all (done es) = let u : length (unknowns es) ≡ 0 + length (unknowns es) = omega arith in rw (held-last MAPS es, ← u)
 read-all (refused r) = refl
 
-pub read-none : (s : List ℕ) (left at u n : ℕ) → left ≤ 0 → readFrom u n (run (elementsFrom left at) s) ≡ elements.Fine u n
-unfolding unknowns lastOf
-read-none s left at u n h = ap (readFrom u n) (from-none s left at h) ∙ (let e : u + 0 ≡ u = omega arith in rw e)
+pub read-none : (s : List ℕ) (left at u n : ℕ) (ps : List ℕ) → left ≤ 0
+    → readFrom u n ps (run (elementsFrom left at) s) ≡ record { verdict = verdicts.Fine; unknown = u; entries = n; places = ps }
+unfolding unknowns lastOf placed
+read-none s left at u n ps h = ap (readFrom u n ps) (from-none s left at h) ∙ (let e : u + 0 ≡ u = omega arith in rw e)
 
 -- what the answer for an element tells of its reading
 is-fine : (o : Outcome Element) (x : ℕ) → entries.Entries x ≡ elementRead o → (e : Element) × (o ≡ done e) × (x ≡ capped (entriesOf e))
@@ -80,11 +99,14 @@ module _ (s : List ℕ) (d : Descriptor) (e : Element) (i : run (elementAt d) s 
       rw (is-table s _ (d .offset) e one (kind-most (d .signature)) i .1)
 
   -- the counts before an element are those behind it
-  counts : (u n x k : ℕ) → k ≡ kindOf (d .signature) → x ≡ capped (entriesOf e)
-      → elements.Fine (u + length (unknowns (e ∷ es))) (lastOr held n (lastOf MAPS (e ∷ es)))
-      ≡ elements.Fine ((u + choose (eqb k 0) 1 0) + length (unknowns es)) (lastOr held (choose (eqb k MAPS) x n) (lastOf MAPS es))
-  counts u n x k q p = ap₂ elements.Fine (first (eqb k 0) refl) (second (eqb k MAPS) refl)
+  counts : (u n x k : ℕ) (ps : List ℕ) → k ≡ kindOf (d .signature) → x ≡ capped (entriesOf e) → readFrom u n ps (done (e ∷ es))
+      ≡ readFrom (u + choose (eqb k 0) 1 0) (choose (eqb k MAPS) x n) (set ps k (d .offset)) (done es)
+  counts u n x k ps q p =
+      λ i. record { verdict = verdicts.Fine; unknown = first (eqb k 0) refl i; entries = second (eqb k MAPS) refl i; places = placed-one s d e i' ps es k (sym q) i }
     where
+      i' : run (elementAt d) s ≡ done e
+      i' = i
+
       first : (b : Bool) → eqb k 0 ≡ b → u + length (unknowns (e ∷ es)) ≡ (u + choose b 1 0) + length (unknowns es)
       first true g = omega (arith, ap length (unknown-here (sym q ∙ eqb-true k 0 g)))
       first false g = omega (arith, ap length (unknown-other (λ z. eqb-false k 0 g (q ∙ z))))
@@ -98,18 +120,18 @@ module _ (s : List ℕ) (left at : ℕ) (h : 0 < left) (d : Descriptor) (found :
   unfolding elementAt
   same-element = rw q
 
-  pub read-stop : (u n : ℕ) (r : Refusal) → entries.Refused r ≡ elementRead (run (elementOf k (d .offset)) s)
-      → verdict (run (many descriptorAt (step 8) left at) s) ≡ verdicts.Fine → readFrom u n (run (elementsFrom left at) s) ≡ elements.Refused r
-  read-stop u n r f v = ap (readFrom u n) (from-stop s left at h d found r (sym same-element ∙ is-refused _ r f) v)
+  pub read-stop : (u n : ℕ) (ps : List ℕ) (r : Refusal) → entries.Refused r ≡ elementRead (run (elementOf k (d .offset)) s)
+      → verdict (run (many descriptorAt (step 8) left at) s) ≡ verdicts.Fine → readFrom u n ps (run (elementsFrom left at) s) ≡ none r
+  read-stop u n ps r f v = ap (readFrom u n ps) (from-stop s left at h d found r (sym same-element ∙ is-refused _ r f) v)
 
-  pub read-more : (u n x u' n' : ℕ) → entries.Entries x ≡ elementRead (run (elementOf k (d .offset)) s)
+  pub read-more : (u n x u' n' : ℕ) (ps : List ℕ) → entries.Entries x ≡ elementRead (run (elementOf k (d .offset)) s)
       → u' ≡ u + choose (eqb k 0) 1 0 → n' ≡ choose (eqb k MAPS) x n
-      → readFrom u n (run (elementsFrom left at) s) ≡ readFrom u' n' (run (elementsFrom (left - 1) (at + 8)) s)
-  read-more u n x u' n' f eu en =
+      → readFrom u n ps (run (elementsFrom left at) s) ≡ readFrom u' n' (set ps k (d .offset)) (run (elementsFrom (left - 1) (at + 8)) s)
+  read-more u n x u' n' ps f eu en =
       let e = is-fine _ x f in
       let i = sym same-element ∙ e .1 in
-      rw (eu, en) (from-told s left at h d found (readFrom u n) (readFrom (u + choose (eqb k 0) 1 0) (choose (eqb k MAPS) x n)) (e .0)
-      (λ es. counts s d (e .0) i es u n x k q (e .2)) (λ r. refl) i)
+      rw (eu, en) (from-told s left at h d found (readFrom u n ps) (readFrom (u + choose (eqb k 0) 1 0) (choose (eqb k MAPS) x n) (set ps k (d .offset))) (e .0)
+      (λ es. counts s d (e .0) i es u n x k ps q (e .2)) (λ r. refl) i)
 
 -- Of the kept tables only the MAPS has map entries.
 entries-append : (n : ℕ) (xs ys : List Table) → entriesAll n (xs ++ ys) ≡ entriesAll (entriesAll n xs) ys
@@ -143,3 +165,49 @@ module _ (s : List ℕ) (c at : ℕ) (v : verdict (run (elementsFrom c at) s) �
       ∙ entries-skip OPCO (λ q. omega arith) _ _
       ∙ entries-skip TASK (λ q. omega arith) _ _
       ∙ entries-skip TTBL (λ q. omega arith) _ _
+
+-- What each list needs for a provider's elements, in the order of the rows.
+abbrev pub needsOf : List Element → List ℕ
+needsOf es =
+    0 ∷ 0 ∷ 0
+    ∷ length (kept es)
+    ∷ length (flat (λ t. definitionsIn (t .rows)) (kept es))
+    ∷ length (flat (λ t. eventsIn (t .rows)) (kept es))
+    ∷ length (flat (λ t. mapsIn (t .rows)) (kept es))
+    ∷ length (flat (λ t. entriesIn (t .rows)) (kept es))
+    ∷ length (flat (λ t. templatesIn (t .rows)) (kept es))
+    ∷ length (unknowns es)
+    ∷ []
+
+abbrev pub neededFor : Outcome (List Element) → Needed
+neededFor o =
+    answer (λ es. record { verdict = verdicts.Fine; counts = map capped (needsOf es) }) (λ r. record { verdict = verdicts.Refused r; counts = area.none }) o
+
+-- what the answer for the elements tells of their reading
+pub is-elements : (o : Outcome (List Element)) (e : Elements) → e ≡ elementsRead o → e .verdict ≡ verdicts.Fine
+    → (verdict o ≡ verdicts.Fine)
+    × (e .places ≡ placed nowhere (values o))
+    × (e .entries ≡ capped (entriesAll 0 (lastOf MAPS (values o))))
+    × (e .unknown ≡ length (unknowns (values o)))
+is-elements (done es) e h f =
+    (refl, ap (λ (x : Elements). x .places) h, ap (λ (x : Elements). x .entries) h, ap (λ (x : Elements). x .unknown) h)
+is-elements (refused r) e h f = absurd (not-fine r (sym (ap (λ (x : Elements). x .verdict) h) ∙ f))
+
+pub no-elements : (o : Outcome (List Element)) (e : Elements) (r : Refusal) → e ≡ elementsRead o → e .verdict ≡ verdicts.Refused r → o ≡ refused r
+no-elements (done es) e r h f = absurd (not-fine r (sym f ∙ ap (λ (x : Elements). x .verdict) h))
+no-elements (refused q) e r h f = let x : verdicts.Refused q ≡ verdicts.Refused r = sym (ap (λ (x : Elements). x .verdict) h) ∙ f in cc
+
+-- the numbers, once the kept tables are counted
+module _ (s : List ℕ) (c at : ℕ) (v : verdict (run (elementsFrom c at) s) ≡ verdicts.Fine) where
+  pub counts-told : (ns : List ℕ) → ns ≡ grownAll area.none (kept (values (run (elementsFrom c at) s)))
+      → (tables entries others : ℕ) → tables ≤ 8 → tables ≡ length (kept (values (run (elementsFrom c at) s)))
+      → entries ≡ capped (entriesAll 0 (lastOf MAPS (values (run (elementsFrom c at) s))))
+      → others ≡ capped (0 + length (unknowns (values (run (elementsFrom c at) s))))
+      → set (set (set ns 3 tables) 7 entries) 9 others ≡ map capped (needsOf (values (run (elementsFrom c at) s)))
+  counts-told ns e tables entries others few et ee eu =
+      let ts = kept (values (run (elementsFrom c at) s)) in
+      let x : tables ≡ capped (length ts) = omega arith in
+      let y : entries ≡ capped (length (flat (λ t. entriesIn (t .rows)) ts)) = ee ∙ ap capped (sym (kept-entries s c at v) ∙ entries-all 0 ts ∙ zero-add _) in
+      let z : others ≡ capped (length (unknowns (values (run (elementsFrom c at) s)))) = eu ∙ ap capped (zero-add _) in
+      let w = e ∙ grown-all area.none ts ∙ ap (map capped) (after-all 0 0 0 0 0 0 ts 0 0 0 0) in
+      ap (λ (l : List ℕ). set (set (set l 3 tables) 7 entries) 9 others) w ∙ simp (x, y, z, zero-add)

@@ -3,5 +3,5 @@ pub mod Elements
 pub mod Places
 pub mod Kinds
 pub mod Checked
-pub mod Counted
 pub mod Sums
+pub mod Counted

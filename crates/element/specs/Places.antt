@@ -64,7 +64,7 @@ module _ (s : List ℕ) (n at : ℕ) (ps : List ℕ) (e : ps ≡ placed (replica
       go (t ∷ ts) p e = refl
 
 -- the next element takes its kind's place
-placed-one : (s : List ℕ) (d : Descriptor) (e : Element) → run (elementAt d) s ≡ done e → (ps : List ℕ) (es : List Element) (k : ℕ) → kindOf (d .signature) ≡ k
+pub placed-one : (s : List ℕ) (d : Descriptor) (e : Element) → run (elementAt d) s ≡ done e → (ps : List ℕ) (es : List Element) (k : ℕ) → kindOf (d .signature) ≡ k
     → placed ps (e ∷ es) ≡ placed (set ps k (d .offset)) es
 unfolding placed elementAt
 placed-one s d e i ps es zero p = rw (is-unknown s (d .offset) e (rw p at i) .0)

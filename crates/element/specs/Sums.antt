@@ -1,82 +1,58 @@
--- How many tables are kept and how many entries they have, table by table, where each number stops rising.
-use Prim.Native.Nat.{ℕ, _+_, _-_, _≤_, _<_}
-use mathlib.Core.Path.{_≡_, ap, sym, _∙_}
-use mathlib.Core.List.{List, [], _∷_, _++_}
+-- How many tables are kept and how many entries they have, kind by kind, where each number stops rising.
+use Prim.Native.Nat.{ℕ, zero, suc, _+_, _-_, _≤_, _<_}
+use mathlib.Core.Path.{_≡_, refl, ap, ap₂, sym, _∙_}
+use mathlib.Core.List.{List, [], _∷_, _++_, map}
 use native.Mathlib.Omega.{arith}
-use lib.ListN.{length}
+use lib.ListN.{length, getD, set, length-append}
 use Rattle.blob.specs.Le.{le}
 use Rattle.blob.specs.declared.Verdict.the-variants as verdicts
 use Rattle.blob.specs.Reading.{run, verdict, values}
-use Rattle.format.specs.Provider.{Rows, definitions, events, maps, templates, Table, Element, elementsFrom}
-use Rattle.format.specs.Lists.{lastOf, written}
+use Rattle.format.specs.Table.{kindList}
+use Rattle.format.specs.Provider.{Rows, Table, Element, elementsFrom}
+use Rattle.format.specs.Lists.{lastOf, listOf, rowCount, after}
 use Rattle.format.specs.Answer.{capped}
-use Rattle.format.specs.Needs.{cappedWritten, small, with-table, writtenAll, placeOf}
+use Rattle.format.specs.Needs.{grown, afterAll, placeOf}
 use Rattle.format.specs.declared.Header.{Header}
-use Rattle.format.specs.declared.Written.{Written}
 use Rattle.element.specs.Kinds.{keptFrom, kept-more, kept-here, kept-nowhere}
 
--- a number for each list, each as far as it is counted
-same-written : (a b c d e : ℕ) (w : Written) → a ≡ capped (w .tables) → b ≡ capped (w .definitions) → c ≡ capped (w .events) → d ≡ capped (w .maps)
-    → e ≡ capped (w .templates) → record { tables = a; definitions = b; events = c; maps = d; templates = e } ≡ cappedWritten w
-same-written a b c d e w p q r s t = rw (p, q, r, s, t)
+-- what is counted with some more tables
+unfoldable pub grownAll : List ℕ → List Table → List ℕ
+grownAll ns [] = ns
+grownAll ns (t ∷ ts) = grownAll (grown (listOf (t .rows)) (rowCount (t .rows)) ns) ts
 
--- Two numbers that are counted alike are so with more added.
-pub capped-more : (a b n : ℕ) → capped a ≡ capped b → capped (a + n) ≡ capped (b + n)
-capped-more a b n h = omega arith
+-- it is what they have, as far as anyone asks
+capped-set : (ns : List ℕ) (i n : ℕ) → set (map capped ns) i (capped (getD (map capped ns) i 0 + n)) ≡ map capped (set ns i (getD ns i 0 + n))
+capped-set [] i n = refl
+capped-set (m ∷ ns) zero n = let e : capped (capped m + n) ≡ capped (m + n) = omega arith in rw e
+capped-set (m ∷ ns) (suc i) n = ap (λ (l : List ℕ). capped m ∷ l) (capped-set ns i n)
 
-module _ (a b : Written) (h : cappedWritten a ≡ cappedWritten b) where
-  t : capped (a .tables + 1) ≡ capped (b .tables + 1)
-  t = capped-more _ _ 1 (ap (λ (w : Written). w .tables) h)
+pub grown-all : (ns : List ℕ) (ts : List Table) → grownAll (map capped ns) ts ≡ map capped (afterAll ns ts)
+unfolding grownAll afterAll
+grown-all ns [] = refl
+grown-all ns (t ∷ ts) = rw (capped-set ns _ (rowCount (t .rows))) (grown-all (after ns (t .rows)) ts)
 
-  d : capped (a .definitions) ≡ capped (b .definitions)
-  d = ap (λ (w : Written). w .definitions) h
-
-  e : capped (a .events) ≡ capped (b .events)
-  e = ap (λ (w : Written). w .events) h
-
-  m : capped (a .maps) ≡ capped (b .maps)
-  m = ap (λ (w : Written). w .maps) h
-
-  p : capped (a .templates) ≡ capped (b .templates)
-  p = ap (λ (w : Written). w .templates) h
-
-  capped-written : (r : Rows) → cappedWritten (written a r) ≡ cappedWritten (written b r)
-  capped-written (definitions ds) = same-written _ _ _ _ _ (written b (definitions ds)) t (capped-more _ _ (length ds) d) e m p
-  capped-written (events es) = same-written _ _ _ _ _ (written b (events es)) t d (capped-more _ _ (length es) e) m p
-  capped-written (maps ms) = same-written _ _ _ _ _ (written b (maps ms)) t d e (capped-more _ _ (length ms) m) p
-  capped-written (templates ts) = same-written _ _ _ _ _ (written b (templates ts)) t d e m (capped-more _ _ (length ts) p)
-
-pub capped-all : (a b : Written) (ts : List Table) → cappedWritten a ≡ cappedWritten b → cappedWritten (writtenAll a ts) ≡ cappedWritten (writtenAll b ts)
-unfolding writtenAll
-capped-all a b [] h = h
-capped-all a b (t ∷ ts) h = capped-all (written a (t .rows)) (written b (t .rows)) ts (capped-written a b h (t .rows))
-
-pub capped-twice : (w : Written) → cappedWritten (cappedWritten w) ≡ cappedWritten w
-capped-twice w = sym (same-written _ _ _ _ _ (cappedWritten w) (omega arith) (omega arith) (omega arith) (omega arith) (omega arith))
-
-pub capped-small : (w : Written) → small (cappedWritten w)
-capped-small w = omega arith
-
-pub small-same : (w : Written) → small w → cappedWritten w ≡ w
-small-same w l = sym (same-written _ _ _ _ _ w (omega arith) (omega arith) (omega arith) (omega arith) (omega arith))
-
--- What the kept tables that are left need, with those before: the next kind's table, or none.
+-- What the kept tables that are left have, with those before: the next kind's table, or none.
 module _ (s : List ℕ) (n at k : ℕ) (v : verdict (run (elementsFrom n at) s) ≡ verdicts.Fine) (place : ℕ) (p : place ≡ placeOf (lastOf k (values (run (elementsFrom n at) s)))) where
   abbrev es : List Element
   es = values (run (elementsFrom n at) s)
 
-  module _ (w : Written) (left : ℕ) (more : 0 < left) where
-    pub count-here : (place ≡ 4294967295 → ⊥) → (x : ℕ) → x ≡ le 4 s (place + 8) → (to : Written) → to ≡ cappedWritten (with-table w k x)
-        → cappedWritten (writtenAll w (keptFrom es left k)) ≡ cappedWritten (writtenAll to (keptFrom es (left - 1) (k + 1)))
-    unfolding writtenAll
-    count-here h x ex to et =
-        let t = kept-here s n at k v place p h in
-        let c : t .3 .header .count ≡ x = ap (λ (g : Header). g .count) (t .3 .words) ∙ ap (λ o. le 4 s (o + 8)) (t .2) ∙ sym ex in
-        ap (λ (l : List Table). cappedWritten (writtenAll w l)) (kept-more es left k more ∙ ap (λ (l : List Table). l ++ keptFrom es (left - 1) (k + 1)) (t .1))
-        ∙ capped-all _ to (keptFrom es (left - 1) (k + 1)) (ap cappedWritten (t .3 .told .writes w ∙ ap (with-table w k) c) ∙ sym (capped-twice _) ∙ ap cappedWritten (sym et))
+  module _ (ns : List ℕ) (left : ℕ) (more : 0 < left) where
+    module _ (h : place ≡ 4294967295 → ⊥) where
+      here : keptFrom es left k ≡ kept-here s n at k v place p h .0 ∷ keptFrom es (left - 1) (k + 1)
+      here = let t = kept-here s n at k v place p h in kept-more es left k more ∙ ap (λ (l : List Table). l ++ keptFrom es (left - 1) (k + 1)) (t .1)
 
-    pub count-nowhere : length s ≤ 16777216 → place ≡ 4294967295 → (to : Written) → to ≡ w
-        → cappedWritten (writtenAll w (keptFrom es left k)) ≡ cappedWritten (writtenAll to (keptFrom es (left - 1) (k + 1)))
-    count-nowhere l h to et =
-        ap (λ (ts : List Table). cappedWritten (writtenAll w ts)) (kept-more es left k more ∙ ap (λ (ts : List Table). ts ++ keptFrom es (left - 1) (k + 1)) (kept-nowhere s n at k v place p l h))
-        ∙ ap (λ (x : Written). cappedWritten (writtenAll x (keptFrom es (left - 1) (k + 1)))) (sym et)
+      pub count-here : 1 ≤ k → k ≤ 8 → (x : ℕ) → x ≡ le 4 s (place + 8) → (to : List ℕ) → to ≡ grown (kindList k) x ns
+          → grownAll ns (keptFrom es left k) ≡ grownAll to (keptFrom es (left - 1) (k + 1))
+      unfolding grownAll
+      count-here a b x ex to et =
+          let t = kept-here s n at k v place p h in
+          let c : t .3 .header .count ≡ x = ap (λ (g : Header). g .count) (t .3 .words) ∙ ap (λ o. le 4 s (o + 8)) (t .2) ∙ sym ex in
+          ap (grownAll ns) here
+          ∙ ap (λ (ms : List ℕ). grownAll ms (keptFrom es (left - 1) (k + 1))) (ap₂ (λ l m. grown l m ns) (t .3 .told .list a b) (t .3 .told .count ∙ c) ∙ sym et)
+
+      pub tables-here : length (keptFrom es left k) ≡ suc (length (keptFrom es (left - 1) (k + 1)))
+      tables-here = ap (λ (l : List Table). length l) here
+
+    module _ (l : length s ≤ 16777216) (h : place ≡ 4294967295) where
+      pub nowhere : keptFrom es left k ≡ keptFrom es (left - 1) (k + 1)
+      nowhere = kept-more es left k more ∙ ap (λ (ts : List Table). ts ++ keptFrom es (left - 1) (k + 1)) (kept-nowhere s n at k v place p l h)

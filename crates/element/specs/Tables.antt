@@ -14,21 +14,21 @@ use Rattle.blob.specs.declared.Verdict.the-variants as verdicts
 use Rattle.blob.specs.Reading.{Reading, got, done, choose, run, _>>=_, many, each, verdict, values}
 use Rattle.blob.specs.Laws.{then-done, run-bind, run-got, run-number, same, fine-done, many-count, each-done}
 use Rattle.blob.specs.Asks.{Finds, finds-got, finds-room, finds-choose, finds-demand, finds-bind, finds-next}
-use Rattle.format.specs.Table.{EVNT, MAPS, TTBL, kinds, kindOf, header-length, stride, headerAt, tableEnd}
+use Rattle.format.specs.Table.{EVNT, MAPS, TTBL, kinds, kindOf, kindList, header-length, stride, headerAt, tableEnd}
 use Rattle.format.specs.Definition.{definitionsAt, step}
 use Rattle.format.specs.Event.{eventAt}
 use Rattle.format.specs.Template.{templatesAt}
 use Rattle.format.specs.Map.{Mapped, mapsAt}
 use Rattle.format.specs.Provider.{definitions, events, maps, templates, Table, Element, table, unknown, plain, eventsAt, tableAt, unknownAt, elementOf, elementAt, elementsFrom}
-use Rattle.format.specs.Lists.{lastOf, or-else, rowCount, written, mapsIn}
-use Rattle.format.specs.Needs.{with-table}
+use Rattle.format.specs.Area.{DEFINITIONS}
+use Rattle.format.specs.Lists.{lastOf, or-else, listOf, rowCount, mapsIn}
+use Rattle.format.specs.Listed.{first}
 use Rattle.format.specs.Rested.{kind-cases}
 use Rattle.format.specs.declared.Header.{Header}
 use Rattle.format.specs.declared.Definition.{Definition}
 use Rattle.format.specs.declared.Event.{Event}
 use Rattle.format.specs.declared.Template.{Template}
 use Rattle.format.specs.declared.Descriptor.{Descriptor}
-use Rattle.format.specs.declared.Written.{Written}
 
 -- the table of a kind whose header was read
 pub record Told (k at : ℕ) (h : Header) (t : Table) : Type 0 where
@@ -36,8 +36,15 @@ pub record Told (k at : ℕ) (h : Header) (t : Table) : Type 0 where
   pub offset : t .offset ≡ at
   pub size : t .size ≡ h .size
   pub count : rowCount (t .rows) ≡ h .count
-  pub writes : (w : Written) → written w (t .rows) ≡ with-table w k (h .count)
+  pub list : 1 ≤ k → k ≤ 8 → listOf (t .rows) ≡ kindList k
   pub no-maps : (k ≡ MAPS → ⊥) → mapsIn (t .rows) ≡ []
+
+-- a kind whose tables have definitions
+kind-definitions : (k : ℕ) → 1 ≤ k → k ≤ 8 → (k ≡ EVNT → ⊥) → (k ≡ MAPS → ⊥) → (k ≡ TTBL → ⊥) → kindList k ≡ DEFINITIONS
+kind-definitions zero a b e m t = absurd (omega arith)
+kind-definitions (suc k) a b e m t =
+    first (λ i. (suc i ≡ EVNT → ⊥) → (suc i ≡ MAPS → ⊥) → (suc i ≡ TTBL → ⊥) → kindList (suc i) ≡ DEFINITIONS) 8 (
+    (λ e m t. refl), ((λ e m t. absurd (e refl)), ((λ e m t. refl), ((λ e m t. refl), ((λ e m t. absurd (m refl)), ((λ e m t. refl), ((λ e m t. refl), ((λ e m t. absurd (t refl)), tt)))))))) k (omega arith) e m t
 
 -- which reading a kind's is
 module _ (k at : ℕ) (h : Header) where
@@ -69,7 +76,7 @@ module _ (s : List ℕ) where
   unfolding eventsAt
   events-told at h =
       finds-bind _ anything (λ e _ _. finds-next 4 (at + 12) (λ x _. finds-bind _ (counted _ _ (h .count) _) (λ es _ n.
-      finds-got (record { kind = refl; offset = refl; size = refl; count = n; writes = λ w. rw n; no-maps = λ _. refl }))))
+      finds-got (record { kind = refl; offset = refl; size = refl; count = n; list = λ _ _. refl; no-maps = λ _. refl }))))
 
   maps-told : (at : ℕ) (h : Header) → Finds (mapsAt at h) s (λ ms ps. length ms ≡ h .count)
   unfolding mapsAt
@@ -90,11 +97,11 @@ module _ (s : List ℕ) where
   table-told k at h =
       finds-choose (eqb k EVNT) (λ e. rw (eqb-true k EVNT e) (events-told at h)) (λ e.
       finds-choose (eqb k MAPS) (λ m. finds-bind _ (maps-told at h) (λ ms _ n.
-      finds-got (record { kind = refl; offset = refl; size = refl; count = n; writes = λ w. rw (eqb-true k MAPS m, n); no-maps = λ f. absurd (f (eqb-true k MAPS m)) }))) (λ m.
+      finds-got (record { kind = refl; offset = refl; size = refl; count = n; list = λ _ _. rw (eqb-true k MAPS m); no-maps = λ f. absurd (f (eqb-true k MAPS m)) }))) (λ m.
       finds-choose (eqb k TTBL) (λ t. finds-bind _ (templates-told at h) (λ ts _ n.
-      finds-got (record { kind = refl; offset = refl; size = refl; count = n; writes = λ w. rw (eqb-true k TTBL t, n); no-maps = λ f. refl }))) (λ t.
+      finds-got (record { kind = refl; offset = refl; size = refl; count = n; list = λ _ _. rw (eqb-true k TTBL t); no-maps = λ f. refl }))) (λ t.
       finds-bind _ (definitions-told k at h) (λ ds _ n.
-      finds-got (record { kind = refl; offset = refl; size = refl; count = n; writes = λ w. rw (e, m, t, n); no-maps = λ f. refl })))))
+      finds-got (record { kind = refl; offset = refl; size = refl; count = n; list = λ x y. sym (kind-definitions k x y (eqb-false k EVNT e) (eqb-false k MAPS m) (eqb-false k TTBL t)); no-maps = λ f. refl })))))
 
   pub told : (k at : ℕ) (h : Header) (t : Table) → run (tableAt k at h) s ≡ done t → Told k at h t
   told k at h t e = table-told k at h .found t e

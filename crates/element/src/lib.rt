@@ -8,42 +8,48 @@ ghost use Rattle.format.specs.Table.{kindOf, header-length};
 ghost use Rattle.format.specs.Provider.{descriptorAt, unknownAt, eventsAt, tableAt, elementOf, elementsFrom};
 ghost use Rattle.element.specs.Checked.{without-entries};
 ghost use Rattle.element.specs.Places.{placed};
-ghost use Rattle.format.specs.Needs.{elementRead, elementsRead, tableRead, cappedWritten, tablesOf};
+ghost use Rattle.element.specs.Counted.{none, elementsRead, neededFor};
+ghost use Rattle.format.specs.Needs.{elementRead, tableRead};
+use blob::Refusal;
 use blob::Verdict;
 use format::Descriptor;
-use format::ElementsRead;
 use format::EndRead;
 use format::EntriesRead;
 use format::Header;
 use format::HeaderRead;
-use format::Written;
+use format::Needed;
 use format::field::PROVIDER_ELEMENT_OFFSET;
 use format::field::UNKNOWN_ELEMENT_END;
 use format::field::UNKNOWN_ELEMENT_HEADER;
-
-// Kinds, by their numbers.
-const EVNT: u32 = 2;
-
-const MAPS: u32 = 5;
-
-const TTBL: u32 = 8;
+use format::kind::CHAN;
+use format::kind::EVNT;
+use format::kind::KEYW;
+use format::kind::KINDS;
+use format::kind::LEVL;
+use format::kind::MAPS;
+use format::kind::OPCO;
+use format::kind::TASK;
+use format::kind::TTBL;
+use format::list::AREAS;
+use format::list::row;
+use format::signature;
 
 // Where a provider keeps no table of a kind: no place of a blob.
-const NONE: u32 = 4294967295;
+pub const NONE: u32 = 4294967295;
 
 // The kind that a signature names; 0 for none.
 pub fn kind_of(signature: u32) -> u32
     ensures { λ r. ⌜ (r ≡ kindOf signature) × (r ≤ 8) ⌝ }
 {
     match signature {
-        0x4E414843 => 1,
-        0x544E5645 => 2,
-        0x5759454B => 3,
-        0x4C56454C => 4,
-        0x5350414D => 5,
-        0x4F43504F => 6,
-        0x4B534154 => 7,
-        0x4C425454 => 8,
+        signature::CHAN => CHAN,
+        signature::EVNT => EVNT,
+        signature::KEYW => KEYW,
+        signature::LEVL => LEVL,
+        signature::MAPS => MAPS,
+        signature::OPCO => OPCO,
+        signature::TASK => TASK,
+        signature::TTBL => TTBL,
         _ => 0,
     }
 }
@@ -140,8 +146,29 @@ pub fn descriptor_of(b: &[u8], at: usize) -> Descriptor
     }
 }
 
+// What going over a provider's elements finds: how many are of no known kind, how many map entries the MAPS that is kept has, where it stops
+// rising at 65,537, and where the last table of each kind stands.
+pub struct Elements {
+    pub verdict: Verdict,
+    pub unknown: u32,
+    pub entries: u32,
+    pub places: [u32; KINDS],
+}
+
+// A refusal of an element.
+fn refused(r: Refusal) -> Elements
+    ensures { λ e. ⌜ e ≡ none r ⌝ }
+{
+    Elements {
+        verdict: Verdict::Refused(r),
+        unknown: 0,
+        entries: 0,
+        places: [NONE; KINDS],
+    }
+}
+
 // Whether the elements of n descriptors, themselves fine, are fine, in descriptor order.
-pub fn check_elements(b: &[u8], start: usize, n: u32) -> ElementsRead
+fn check_elements(b: &[u8], start: usize, n: u32) -> Elements
     requires { ⌜ (start + 8 * n ≤ length (now b)) × (length (now b) ≤ 16777216) ⌝ }
     requires { ⌜ verdict (run (many descriptorAt (step 8) n start) (now b)) ≡ Verdict.Fine ⌝ }
     ensures { λ r. ⌜ r ≡ elementsRead (run (elementsFrom n start) (now (b .entry))) ⌝ }
@@ -150,11 +177,12 @@ pub fn check_elements(b: &[u8], start: usize, n: u32) -> ElementsRead
     let mut left = n;
     let mut unknown = 0;
     let mut entries = 0;
+    let mut places = [NONE; KINDS];
     while 0 < left {
         let d = descriptor_of(b, at);
         let kind = kind_of(d.signature);
         match check_element(b, kind, d.offset as usize) {
-            EntriesRead::Refused(r) => return ElementsRead::Refused(r),
+            EntriesRead::Refused(r) => return refused(r),
             EntriesRead::Entries(e) => {
                 if kind == 0 {
                     unknown += 1;
@@ -164,10 +192,16 @@ pub fn check_elements(b: &[u8], start: usize, n: u32) -> ElementsRead
                 }
             }
         }
+        places[kind as usize] = d.offset;
         at += 8;
         left -= 1;
     }
-    ElementsRead::Fine(unknown, entries)
+    Elements {
+        verdict: Verdict::Fine,
+        unknown,
+        entries,
+        places,
+    }
 }
 
 // Where the tables of n descriptors' elements stand, by kind: of two of a kind the last. Elements of no known kind have the place of kind 0.
@@ -187,30 +221,39 @@ pub fn place_tables(b: &[u8], start: usize, n: u32, places: &mut [u32])
     }
 }
 
-// How many tables are kept, and how many entries they have in the lists of their kinds.
-pub fn count_tables(b: &[u8], start: usize, n: u32) -> Written
+// Whether the elements of n descriptors, themselves fine, are fine, and what each list needs for them: each number stops rising at 65,537.
+pub fn check(b: &[u8], start: usize, n: u32) -> Needed
     requires { ⌜ (start + 8 * n ≤ length (now b)) × (length (now b) ≤ 16777216) ⌝ }
-    requires { ⌜ verdict (run (elementsFrom n start) (now b)) ≡ Verdict.Fine ⌝ }
-    ensures { λ r. ⌜ r ≡ cappedWritten (tablesOf (values (run (elementsFrom n start) (now (b .entry))))) ⌝ }
+    requires { ⌜ verdict (run (many descriptorAt (step 8) n start) (now b)) ≡ Verdict.Fine ⌝ }
+    ensures { λ r. ⌜ r ≡ neededFor (run (elementsFrom n start) (now (b .entry))) ⌝ }
 {
-    let mut places = [NONE; 9];
-    place_tables(b, start, n, &mut places);
-    let mut kind = 1;
+    let e = check_elements(b, start, n);
+    let verdict = e.verdict;
+    if let Verdict::Refused(r) = verdict {
+        return Needed {
+            verdict: Verdict::Refused(r),
+            counts: [0; AREAS],
+        };
+    }
+    let places = e.places;
+    let mut kind = CHAN;
     let mut left: u32 = 8;
-    let mut w = Written {
-        tables: 0,
-        definitions: 0,
-        events: 0,
-        maps: 0,
-        templates: 0,
-    };
+    let mut tables = 0;
+    let mut counts = [0; AREAS];
     while 0 < left {
         let place = places[kind as usize];
         if place != NONE {
-            w = counts::wrote(w, kind, blob::word(b, place as usize + 8));
+            tables += 1;
+            counts = counts::grow(counts, kind, blob::word(b, place as usize + 8));
         }
         kind += 1;
         left -= 1;
     }
-    w
+    counts[row::TABLES] = tables;
+    counts[row::ENTRIES] = e.entries;
+    counts[row::UNKNOWN] = bounds::sum(0, e.unknown);
+    Needed {
+        verdict: Verdict::Fine,
+        counts,
+    }
 }

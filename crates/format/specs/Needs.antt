@@ -1,12 +1,12 @@
 -- How many entries a list needs, as far as anyone asks: no capacity is over 65,536, so a need may stop rising once it is past that.
 use Prim.Native.Nat.{ℕ, _+_, _≤_}
 use mathlib.Core.List.{List, [], _∷_, map}
-use lib.ListN.{length}
+use lib.ListN.{length, set}
 use Rattle.blob.specs.declared.Verdict.the-variants as verdicts
 use Rattle.blob.specs.Places.{Each}
 use Rattle.blob.specs.Reading.{Outcome, answer}
 use Rattle.blob.specs.Laid.{flat}
-use Rattle.format.specs.Area.{none}
+use Rattle.format.specs.Area.{place, none, of}
 use Rattle.format.specs.Map.{Mapped}
 use Rattle.format.specs.Provider.{Rows, Table, Element, table, unknown, Provider}
 use Rattle.format.specs.Lists.{kept, unknowns, after, definitionsIn, eventsIn, mapsIn, templatesIn}
@@ -80,6 +80,10 @@ unfoldable pub plus : List ℕ → List ℕ → List ℕ
 plus [] ys = []
 plus (x ∷ xs) [] = []
 plus (x ∷ xs) (y ∷ ys) = capped (x + y) ∷ plus xs ys
+
+-- so many more in a list, as far as anyone asks
+abbrev pub grown : ℕ → ℕ → List ℕ → List ℕ
+grown l n ns = set ns (place l) (capped (of l ns + n))
 
 -- no number is past where it stops rising
 abbrev pub modest : List ℕ → Type 0
