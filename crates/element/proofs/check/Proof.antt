@@ -143,10 +143,14 @@ returns-2 c =
     let l = c .before .before .loop in
     let inv = l .inv in
     let m = c .before .before .before .before .before .before in
-    let e = is-elements _ _ (m .check-elements .ensures) (c .before .before .before .before .enum-told .given .1) in
-    let n = kept-none _ _ _ (c .before .loop-test .left) in
-    ap (λ ns. record { verdict = verdicts.Fine; counts = ns }) (counts-told _ _ _ (inv .4) (l .counts) (sym (ap (grownAll (l .counts)) n) ∙ inv .6) _ _ _ (omega arith) (omega (arith, inv .7, ap (λ ts. length ts) n)) (e .2) (c .sum .ensures ∙ ap (λ u. capped (0 + u)) (e .3)))
-    ∙ sym (ap neededFor (fine-done _ (inv .4)))
+    let a = m .before .before .args in
+    let o = run (elementsFrom (a .n) (a .start)) (a .b .now) in
+    let e = is-elements o (m .check-elements .result) (m .check-elements .ensures) (c .before .before .before .before .enum-told .given .1) in
+    let n = kept-none (values o) (l .left) (l .kind) (c .before .loop-test .left) in
+    ap (λ ns. record { verdict = verdicts.Fine; counts = ns })
+    (counts-told (a .b .now) (a .n) (a .start) (inv .4) (l .counts) (sym (ap (grownAll (l .counts)) n) ∙ inv .6) (l .tables) _ _ (omega arith)
+    (omega (arith, inv .7, ap (λ ts. length ts) n)) (e .2) (c .sum .ensures ∙ ap (λ u. capped (0 + u)) (e .3)))
+    ∙ sym (ap neededFor (fine-done o (inv .4)))
 
 pub check-spec : {M : Type 1} → statement M
 check-spec =
