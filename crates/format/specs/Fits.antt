@@ -19,7 +19,7 @@ use Rattle.format.specs.Lists.{Entry, providerWords, descriptorWords, un
 use Rattle.format.specs.Answer.{counted, capped}
 use Rattle.format.specs.Needs.{afterAll, of-tables, entriesIn, has, needsAll}
 use Rattle.format.specs.Parts.{start, fits, behindAll, parts, passedAll}
-use Rattle.format.specs.Grows.{behindAll-same, passedAll-ahead}
+use Rattle.format.specs.Grows.{behindAll-same, behindAll-length, passedAll-ahead}
 use Rattle.format.specs.Listed.{itemized, lists-itemized, First, first, number, listed}
 use Rattle.format.specs.Needed.{total, total-length, after-all, entries-count, counted-has, needed}
 
@@ -216,4 +216,4 @@ module _ (ps : List Provider) (f : Few (counted (lists ps))) where
   pub walk-fits : (i : ℕ) → i < length rows → fits (passedAll (number i) start ps) (words i * length (getD (lists ps) i []))
   walk-fits i h =
       let n = few-of 0 (λ (p : Provider). p ∷ []) refl in
-      rw (passedAll-ahead (number i) start ps) (omega (arith, parts-wide ps i h), omega (arith, n, ap length (flat-single ps)), few-behind (number i))
+      rw (passedAll-ahead (number i) start ps) (omega (arith, parts-wide ps i h), omega (arith, n, ap length (flat-single ps)), few-behind (number i), behindAll-length (number i) none (tables ps))

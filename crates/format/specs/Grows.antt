@@ -112,6 +112,7 @@ module _ (l : ℕ) (w : Walk) where
 pub record Grows (v w : Walk) : Type 0 where
   pub number : v .number ≤ w .number
   pub before : (i : ℕ) → getD (v .before) i 0 ≤ getD (w .before) i 0
+  pub rows : length (w .before) ≡ length (v .before)
   pub to : v .to ≤ w .to
 
 more-grows : (ns : List ℕ) (j n i : ℕ) → getD ns i 0 ≤ getD (set ns j (getD ns j 0 + n)) i 0
@@ -132,7 +133,7 @@ behindAll-grows l before [] i = omega arith
 behindAll-grows l before (t ∷ ts) i = omega (arith, behind-grows l before t i, behindAll-grows l (behind l before t) ts i)
 
 ahead-grows : (l : ℕ) (w : Walk) (n : ℕ) (ts : List Table) (ws : List ℕ) → w .number ≤ n → Grows w (ahead l w n ts ws)
-ahead-grows l w n ts ws h = record { number = h; before = behindAll-grows l (w .before) ts; to = omega arith }
+ahead-grows l w n ts ws h = record { number = h; before = behindAll-grows l (w .before) ts; rows = behindAll-length l (w .before) ts; to = omega arith }
 
 -- a walk never goes back
 module _ (l : ℕ) (w : Walk) where
@@ -151,4 +152,4 @@ module _ (l : ℕ) (w : Walk) where
 
 -- what fits behind some more fits before it
 pub fits-before : (v w : Walk) (n : ℕ) → Grows v w → fits w n → fits v n
-fits-before v w n g f = (omega (arith, g .to, f .0), omega (arith, g .number, f .1), λ i. omega (arith, g .before i, f .2 i))
+fits-before v w n g f = (omega (arith, g .to, f .0), omega (arith, g .number, f .1), λ i. omega (arith, g .before i, f .2 i), sym (g .rows) ∙ f .3)

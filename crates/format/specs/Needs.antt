@@ -94,10 +94,11 @@ unfoldable pub needsAll : List ℕ → List Provider → List ℕ
 needsAll ns [] = ns
 needsAll ns (p ∷ ps) = needsAll (plus ns (needsOf p)) ps
 
--- what is needed with a provider that was read, and what the code answers for some
-abbrev pub needsBy : List ℕ → Outcome Provider → List ℕ
-needsBy ns o = answer (λ p. plus ns (needsOf p)) (λ r. ns) o
+-- what the code answers for a provider, and for some
+abbrev pub providerRead : List ℕ → Outcome Provider → Needed
+providerRead ns o =
+    answer (λ p. record { verdict = verdicts.Fine; counts = plus ns (needsOf p) }) (λ r. record { verdict = verdicts.Refused r; counts = none }) o
 
-abbrev pub neededBy : List ℕ → Outcome (List Provider) → Needed
-neededBy ns o =
+abbrev pub providersRead : List ℕ → Outcome (List Provider) → Needed
+providersRead ns o =
     answer (λ ps. record { verdict = verdicts.Fine; counts = needsAll ns ps }) (λ r. record { verdict = verdicts.Refused r; counts = none }) o

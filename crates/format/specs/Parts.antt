@@ -1,12 +1,13 @@
 -- What a list has of a table, of a provider and of some providers, as it is filled: from a walk that says how many were before.
 -- (Listed shows that this is what Lists says.)
 use Prim.Native.Nat.{ℕ, _+_, _*_, _≤_}
+use mathlib.Core.Path.{_≡_}
 use mathlib.Core.List.{List, [], _∷_, _++_}
 use lib.ListN.{length, getD}
 use lib.Dec.{eqb}
 use Rattle.blob.specs.Reading.{choose}
 use Rattle.blob.specs.Laid.{flat}
-use Rattle.format.specs.Area.{PROVIDERS, DESCRIPTORS, UNKNOWN2, TABLES, DEFINITIONS, EVENTS, MAPS, ENTRIES, UNKNOWN, width, none, of, more}
+use Rattle.format.specs.Area.{PROVIDERS, DESCRIPTORS, UNKNOWN2, TABLES, DEFINITIONS, EVENTS, MAPS, ENTRIES, UNKNOWN, rows, width, none, of, more}
 use Rattle.format.specs.Provider.{Table, Provider}
 use Rattle.format.specs.Lists.{providerWords, descriptorWords, unknown2Words, tableWords, definitionWords, eventWords, mapList, mapEntryWords, templateWords, unknownWords, kept, unknowns, after, definitionsIn, eventsIn, mapsIn, templatesIn}
 use Rattle.format.specs.Needs.{entryCount}
@@ -16,9 +17,9 @@ use Rattle.format.specs.declared.Walk.{Walk}
 abbrev pub start : Walk
 start = record { number = 0; before = none; to = 0 }
 
--- where a list of so many words holds what was written, and no number is over 65,536
+-- where a list of so many words holds what was written, and no number is over 65,536, one for each row
 abbrev pub fits : Walk → ℕ → Type 0
-fits w n = (w .to ≤ n) × (w .number ≤ 65536) × ((i : ℕ) → getD (w .before) i 0 ≤ 65536)
+fits w n = (w .to ≤ n) × (w .number ≤ 65536) × ((i : ℕ) → getD (w .before) i 0 ≤ 65536) × (length (w .before) ≡ length rows)
 
 -- so many words further
 abbrev pub moved : Walk → ℕ → Walk

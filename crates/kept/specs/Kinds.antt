@@ -1,11 +1,11 @@
 -- What a list has of the table of a kind that is kept: its rows, or nothing.
-use Prim.Native.Nat.{ℕ, _+_, _-_, _≤_, _<_}
+use Prim.Native.Nat.{ℕ, zero, suc, _+_, _-_, _≤_, _<_}
 use mathlib.Core.Path.{_≡_, refl, ap, ap₂, sym, _∙_, subst}
 use mathlib.Core.Bool.{Bool, true, false}
 use mathlib.Core.List.{List, [], _∷_, _++_, append-nil, append-assoc}
 use native.Mathlib.Nat.{add-zero}
 use native.Mathlib.Omega.{arith}
-use lib.ListN.{length}
+use lib.ListN.{length, getD, set}
 use lib.Dec.{eqb}
 use borrow.Author.Tests.{ne-eqb, eqb-true, eqb-false}
 use Rattle.blob.specs.Le.{le}
@@ -13,13 +13,14 @@ use Rattle.blob.specs.declared.Verdict.the-variants as verdicts
 use Rattle.blob.specs.Reading.{Outcome, done, refused, choose, run, verdict, values}
 use Rattle.blob.specs.Laws.{fine-value}
 use Rattle.blob.specs.Laid.{flat, laid, laid-more}
+use Rattle.format.specs.Area as area
+use Rattle.format.specs.Area.{TABLES, DEFINITIONS, EVENTS, ENTRIES, place}
 use Rattle.format.specs.Table.{EVNT, MAPS, TTBL, header-length}
 use Rattle.format.specs.Provider.{Table, Element, tableAt, elementsFrom}
 use Rattle.format.specs.Lists.{lastOf, definitionsIn, eventsIn, mapsIn, templatesIn, mapList}
 use Rattle.format.specs.Needs.{entryCount, placeOf}
 use Rattle.format.specs.Parts.{tablePart, walked, tableParts, walkedAll, fits}
 use Rattle.format.specs.Grows.{walkedAll-grows, walkedAll-to, fits-before}
-use Rattle.format.specs.Listed.{each-of-ten}
 use Rattle.format.specs.declared.Header.{Header}
 use Rattle.format.specs.declared.Walk.{Walk}
 use Rattle.element.specs.Kinds.{kept-here, kept-nowhere, keptFrom, kept-more}
@@ -54,25 +55,38 @@ module _ {k at : ℕ} {h : Header} {s : List ℕ} {t : Table} where
   no-templates q (of-templates v ts _ m) = absurd (let z : _≡_ {A = ℕ} 0 1 = cc in omega arith)
   no-templates q (of-definitions a b c ds _ m) = rw m
 
-module _ (k at : ℕ) (h : Header) (s : List ℕ) (t : Table) (w : Walk) (e : run (tableAt k at h) s ≡ done t) where
-  abbrev Nothing : ℕ → Type 0
-  Nothing l = 4 ≤ l → l ≤ 9 → hasEntries l k ≡ false → (tablePart l w t ≡ []) × (walked l w t ≡ w)
+-- a number that is stored where it stands changes nothing
+set-same : (ns : List ℕ) (i : ℕ) → set ns i (getD ns i 0 + 0) ≡ ns
+set-same [] i = refl
+set-same (n ∷ ns) zero = simp add-zero
+set-same (n ∷ ns) (suc i) = ap (λ (l : List ℕ). n ∷ l) (set-same ns i)
 
+-- what holds of each list that has entries of tables, and of any other that is taken for that of templates
+by-list : (P : ℕ → Type 0) → P TABLES → P DEFINITIONS → P EVENTS → P area.MAPS → P ENTRIES
+    → ((l : ℕ) → eqb l TABLES ≡ false → eqb l DEFINITIONS ≡ false → eqb l EVENTS ≡ false → eqb l area.MAPS ≡ false → eqb l ENTRIES ≡ false → P l) → (l : ℕ) → P l
+by-list P t d e m n rest l = go (eqb l TABLES) (eqb l DEFINITIONS) (eqb l EVENTS) (eqb l area.MAPS) (eqb l ENTRIES) refl refl refl refl refl
+  where
+    go : (a b c d' e' : Bool) → eqb l TABLES ≡ a → eqb l DEFINITIONS ≡ b → eqb l EVENTS ≡ c → eqb l area.MAPS ≡ d' → eqb l ENTRIES ≡ e' → P l
+    go true b c x y ea eb ec ed ee = rw (eqb-true l TABLES ea) t
+    go false true c x y ea eb ec ed ee = rw (eqb-true l DEFINITIONS eb) d
+    go false false true x y ea eb ec ed ee = rw (eqb-true l EVENTS ec) e
+    go false false false true y ea eb ec ed ee = rw (eqb-true l area.MAPS ed) m
+    go false false false false true ea eb ec ed ee = rw (eqb-true l ENTRIES ee) n
+    go false false false false false ea eb ec ed ee = rest l ea eb ec ed ee
+
+module _ (k at : ℕ) (h : Header) (s : List ℕ) (t : Table) (w : Walk) (e : run (tableAt k at h) s ≡ done t) where
   -- a table whose kind has no entries in a list
-  not-here : (l : ℕ) → 4 ≤ l → l ≤ 9 → hasEntries l k ≡ false → (tablePart l w t ≡ []) × (walked l w t ≡ w)
+  not-here : (l : ℕ) → hasEntries l k ≡ false → (tablePart l w t ≡ []) × (walked l w t ≡ w)
   unfolding tablePart walked flat mapList entryCount
-  not-here l m n =
+  not-here =
       let x = shape k at h s t e in
-      each-of-ten Nothing
-      (λ a b q. absurd (omega arith)) (λ a b q. absurd (omega arith)) (λ a b q. absurd (omega arith))
-      (λ a b q. absurd (let z : _≡_ {A = ℕ} 0 1 = cc in omega arith))
-      (λ a b q. rw (no-definitions q x) (refl, simp add-zero))
-      (λ a b q. rw (no-events q x) (refl, simp add-zero))
-      (λ a b q. rw (no-maps q x) (refl, simp add-zero))
-      (λ a b q. rw (no-maps q x) (refl, simp add-zero))
-      (λ a b q. rw (no-templates q x) (refl, simp add-zero))
-      (λ a b q. absurd (omega arith))
-      l (omega arith) (omega arith) m n
+      by-list (λ l. hasEntries l k ≡ false → (tablePart l w t ≡ []) × (walked l w t ≡ w))
+      (λ q. absurd (let z : _≡_ {A = ℕ} 0 1 = cc in omega arith))
+      (λ q. rw (no-definitions q x) (refl, simp add-zero))
+      (λ q. rw (no-events q x) (refl, simp add-zero))
+      (λ q. rw (no-maps q x, set-same (w .before) (place ENTRIES)) (refl, simp add-zero))
+      (λ q. rw (no-maps q x) (refl, simp add-zero))
+      (λ l a b c d y q. rw (a, b, c, d, y) (rw (no-templates (rw (a, b, c, d, y) at q) x) (refl, simp add-zero)))
 
 -- some tables and some more
 pub walkedAll-append : (l : ℕ) (w : Walk) (ts us : List Table) → walkedAll l w (ts ++ us) ≡ walkedAll l (walkedAll l w ts) us
@@ -148,22 +162,22 @@ module _ (s : List ℕ) (l k place : ℕ) (w : Walk) where
     one : (t : Table) × (run (tableAt k place (headed s place)) s ≡ done t) × (last ≡ t ∷ [])
     one = let t = fine-value _ v in (t .0, t .1, rw (ne-eqb place 4294967295 h) (ap only (t .1)))
 
-    kind-nothing : 4 ≤ l → l ≤ 9 → hasEntries l k ≡ false → (tableParts l w last ≡ []) × (walkedAll l w last ≡ w)
-    kind-nothing a b q =
-        let x = not-here k place (headed s place) s (one .0) w (one .1) l a b q in
+    kind-nothing : hasEntries l k ≡ false → (tableParts l w last ≡ []) × (walkedAll l w last ≡ w)
+    kind-nothing q =
+        let x = not-here k place (headed s place) s (one .0) w (one .1) l q in
         rw (one .2) (tableParts-one l w (one .0) ∙ x .0, walkedAll-one l w (one .0) ∙ x .1)
 
     pub kind-here : (walkedBy l w (run (tableAt k place (headed s place)) s) ≡ walkedAll l w last)
         × (partBy l w (run (tableAt k place (headed s place)) s) ≡ tableParts l w last)
     kind-here = rw (one .2, one .1) (sym (walkedAll-one l w (one .0)), sym (tableParts-one l w (one .0)))
 
-  pub kind-none : 4 ≤ l → l ≤ 9 → Stands s k place → hasAny l k place ≡ false → (tableParts l w last ≡ []) × (walkedAll l w last ≡ w)
+  pub kind-none : Stands s k place → hasAny l k place ≡ false → (tableParts l w last ≡ []) × (walkedAll l w last ≡ w)
   unfolding tableParts walkedAll
-  kind-none a b u e = go (eqb place 4294967295) refl e
+  kind-none u e = go (eqb place 4294967295) refl e
     where
       go : (x : Bool) → eqb place 4294967295 ≡ x → choose x false (hasEntries l k) ≡ false → (tableParts l w last ≡ []) × (walkedAll l w last ≡ w)
       go true q e = rw q (refl, refl)
-      go false q e = let h = eqb-false place 4294967295 q in kind-nothing h (u h .1) a b e
+      go false q e = let h = eqb-false place 4294967295 q in kind-nothing h (u h .1) e
 
 -- what the walk and the area are once a list has what it has of a provider's last table of a kind
 abbrev pub Put : (es : List Element) → (l k : ℕ) → (w u : Walk) → (area area' : List ℕ) → Type 0
@@ -177,10 +191,10 @@ module _ (s : List ℕ) (n at l k : ℕ) (v : verdict (run (elementsFrom n at) s
       let q = sym (kept-at s n at k v place p most) in
       (e ∙ ap (walkedAll l w) q, f ∙ ap (λ (ts : List Table). laid area (w .to) (tableParts l w ts)) q)
 
-  pub put-none : 4 ≤ l → l ≤ 9 → hasAny l k place ≡ false → u ≡ w → area' ≡ area → Put (values (run (elementsFrom n at) s)) l k w u area area'
+  pub put-none : hasAny l k place ≡ false → u ≡ w → area' ≡ area → Put (values (run (elementsFrom n at) s)) l k w u area area'
   unfolding laid
-  put-none a b h e f =
-      let x = kind-none s l k place w a b (stands s n at k v place p) h in
+  put-none h e f =
+      let x = kind-none s l k place w (stands s n at k v place p) h in
       put-here (e ∙ sym (x .1)) (f ∙ sym (ap (laid area (w .to)) (x .0)))
 
 -- the next kind's table, and those of the kinds behind it

@@ -13,21 +13,22 @@ use Rattle.blob.specs.declared.Refusal.{Refusal}
 use Rattle.blob.specs.Reading.{Outcome, done, refused, choose, run, many, answer}
 use Rattle.blob.specs.Laid.{flat}
 use Rattle.blob.specs.Laws.{never, same, length-flat}
-use Rattle.format.specs.Table.{EVNT, MAPS, TTBL, header-length, tableEnd}
+use Rattle.format.specs.Area as area
+use Rattle.format.specs.Area.{TABLES, DEFINITIONS, EVENTS, ENTRIES, TEMPLATES, of, more}
+use Rattle.format.specs.Table.{EVNT, MAPS, TTBL, kindList, header-length, tableEnd}
 use Rattle.format.specs.Definition.{step, definitionsAt}
 use Rattle.format.specs.Event.{eventAt}
 use Rattle.format.specs.Template.{templatesAt}
 use Rattle.format.specs.Map.{Mapped, mapsAt}
 use Rattle.format.specs.Provider.{Table, definitions, events, maps, templates, plain, tableAt}
-use Rattle.format.specs.Lists.{before, rowCount, definitionsIn, eventsIn, mapsIn, templatesIn, definitionWords, eventWords, templateWords, mapList, mapEntryWords}
-use Rattle.format.specs.Needs.{with-table, entryCount}
+use Rattle.format.specs.Lists.{rowCount, definitionsIn, eventsIn, mapsIn, templatesIn, definitionWords, eventWords, templateWords, mapList, mapEntryWords}
+use Rattle.format.specs.Needs.{entryCount}
 use Rattle.format.specs.Parts.{tablePart, walked, moved}
 use Rattle.format.specs.declared.Header.{Header}
 use Rattle.format.specs.declared.Definition.{Definition}
 use Rattle.format.specs.declared.Event.{Event}
 use Rattle.format.specs.declared.Template.{Template}
 use Rattle.format.specs.declared.Walk.{Walk}
-use Rattle.format.specs.declared.Written.{Written}
 use Rattle.table.specs.Headers.{end-fits}
 use Rattle.element.specs.Tables.{are-events, are-maps, are-templates, are-definitions, told}
 use Rattle.kept.specs.declared.Trailing.{Trailing}
@@ -37,15 +38,11 @@ holdsDefinitions k = choose (eqb k EVNT) false (choose (eqb k MAPS) false (choos
 
 abbrev pub hasEntries : ℕ → ℕ → Bool
 hasEntries l k =
-    choose (eqb l 4) true (
-    choose (eqb l 5) (holdsDefinitions k) (
-    choose (eqb l 6) (eqb k EVNT) (
-    choose (eqb l 7) (eqb k MAPS) (
-    choose (eqb l 8) (eqb k MAPS) (eqb k TTBL)))))
-
-abbrev pub firstOf : Written → ℕ → ℕ
-firstOf w k =
-    choose (eqb k EVNT) (w .events) (choose (eqb k MAPS) (w .maps) (choose (eqb k TTBL) (w .templates) (w .definitions)))
+    choose (eqb l TABLES) true (
+    choose (eqb l DEFINITIONS) (holdsDefinitions k) (
+    choose (eqb l EVENTS) (eqb k EVNT) (
+    choose (eqb l area.MAPS) (eqb k MAPS) (
+    choose (eqb l ENTRIES) (eqb k MAPS) (eqb k TTBL)))))
 
 -- what is known of a table where it was accepted
 abbrev pub trailingOf : Outcome Table → Trailing
@@ -98,12 +95,6 @@ module _ (k at : ℕ) (h : Header) (s : List ℕ) (t : Table) where
           let m = are-definitions s k at h t e a b c in
           of-definitions a b c (m .0) (m .1) (m .2)
 
-  pub first-is : Shape k at h s t → (w : Written) → before w (t .rows) ≡ firstOf w k
-  first-is (of-events v _ _ es _ m) w = rw (v, m)
-  first-is (of-maps v ms _ m) w = rw (v, m)
-  first-is (of-templates v ts _ m) w = rw (v, m)
-  first-is (of-definitions a b c ds _ m) w = rw (m, ne-eqb k EVNT a, ne-eqb k MAPS b, ne-eqb k TTBL c)
-
   -- what is beside the events of an EVNT, and beside other rows
   pub no-trailing : (k ≡ EVNT → ⊥) → Shape k at h s t → trailingOf (done t) ≡ record { extra = 0; start = 0; length = 0 }
   no-trailing n (of-events v _ _ es _ m) = absurd (n v)
@@ -126,22 +117,23 @@ module _ (k at : ℕ) (h : Header) (s : List ℕ) (t : Table) where
 
   module _ (w : Walk) (e : run (tableAt k at h) s ≡ done t) where
     -- list 4: the table itself
-    pub table-part : tablePart 4 w t
-        ≡ w .number ∷ k ∷ at ∷ h .size ∷ t .extra ∷ firstOf (w .written) k ∷ h .count ∷ t .start ∷ t .length ∷ []
-    unfolding tablePart
-    table-part =
-        let x = told s k at h t e in
-        rw (x .kind, x .offset, x .size, x .count, first-is (shape e) (w .written)) refl
+    module _ (one : 1 ≤ k) (most : k ≤ 8) where
+      table-part : tablePart TABLES w t
+          ≡ w .number ∷ k ∷ at ∷ h .size ∷ t .extra ∷ of (kindList k) (w .before) ∷ h .count ∷ t .start ∷ t .length ∷ []
+      unfolding tablePart
+      table-part =
+          let x = told s k at h t e in
+          rw (x .kind, x .offset, x .size, x .count, x .list one most) refl
 
-    pub put-words : (x : Trailing) (first : ℕ) → x ≡ trailingOf (run (tableAt k at h) s) → first ≡ firstOf (w .written) k
-        → _≡_ {A = List ℕ} (w .number ∷ k ∷ at ∷ h .size ∷ x .extra ∷ first ∷ h .count ∷ x .start ∷ x .length ∷ []) (partBy 4 w (run (tableAt k at h) s))
-    put-words x first f g =
-        let y : x ≡ trailingOf (done t) = f ∙ ap trailingOf e in
-        rw (y, g) (sym (ap (partBy 4 w) e ∙ table-part))
+      pub put-words : (x : Trailing) (first : ℕ) → x ≡ trailingOf (run (tableAt k at h) s) → first ≡ of (kindList k) (w .before)
+          → _≡_ {A = List ℕ} (w .number ∷ k ∷ at ∷ h .size ∷ x .extra ∷ first ∷ h .count ∷ x .start ∷ x .length ∷ []) (partBy TABLES w (run (tableAt k at h) s))
+      put-words x first f g =
+          let y : x ≡ trailingOf (done t) = f ∙ ap trailingOf e in
+          rw (y, g) (sym (ap (partBy TABLES w) e ∙ table-part))
 
-    pub table-walked : walked 4 w t ≡ record { number = w .number; written = with-table (w .written) k (h .count); entries = w .entries; to = w .to + 9 }
-    unfolding walked tablePart
-    table-walked = rw (told s k at h t e .writes (w .written)) refl
+      pub table-walked : walked TABLES w t ≡ record { number = w .number; before = more (kindList k) (h .count) (w .before); to = w .to + 9 }
+      unfolding walked tablePart
+      table-walked = let x = told s k at h t e in rw (x .list one most, x .count) refl
 
     -- so many entries, of so many words each, as the header says
     sized : {A : Type 0} (words : A → List ℕ) (n : ℕ) → ((a : A) → length (words a) ≡ n) → (vs : List A) → rowCount (t .rows) ≡ length vs
@@ -151,15 +143,15 @@ module _ (k at : ℕ) (h : Header) (s : List ℕ) (t : Table) where
     -- list 5: definitions
     pub definitions-part : holdsDefinitions k ≡ true → (ds : List Definition)
         × (run (definitionsAt k at h) s ≡ done ds)
-        × (tablePart 5 w t ≡ flat definitionWords ds)
-        × (walked 5 w t ≡ moved w (12 * h .count))
+        × (tablePart DEFINITIONS w t ≡ flat definitionWords ds)
+        × (walked DEFINITIONS w t ≡ moved w (12 * h .count))
     unfolding walked tablePart
     definitions-part q = go (shape e)
       where
         go : Shape k at h s t → (ds : List Definition)
             × (run (definitionsAt k at h) s ≡ done ds)
-            × (tablePart 5 w t ≡ flat definitionWords ds)
-            × (walked 5 w t ≡ moved w (12 * h .count))
+            × (tablePart DEFINITIONS w t ≡ flat definitionWords ds)
+            × (walked DEFINITIONS w t ≡ moved w (12 * h .count))
         go (of-events v _ _ es _ m) = absurd (let z : _≡_ {A = ℕ} 0 1 = cc in omega arith)
         go (of-maps v ms _ m) = absurd (let z : _≡_ {A = ℕ} 0 1 = cc in omega arith)
         go (of-templates v ts _ m) = absurd (let z : _≡_ {A = ℕ} 0 1 = cc in omega arith)
@@ -171,8 +163,8 @@ module _ (k at : ℕ) (h : Header) (s : List ℕ) (t : Table) where
     pub events-part : k ≡ EVNT → (es : List Event)
         × (run (many eventAt (step 48) (h .count) (at + 16)) s ≡ done es)
         × (at + 16 + 48 * h .count ≤ length s)
-        × (tablePart 6 w t ≡ flat eventWords es)
-        × (walked 6 w t ≡ moved w (16 * h .count))
+        × (tablePart EVENTS w t ≡ flat eventWords es)
+        × (walked EVENTS w t ≡ moved w (16 * h .count))
     unfolding walked tablePart
     events-part q =
         let x = are-events s k at h t e q in
@@ -183,22 +175,22 @@ module _ (k at : ℕ) (h : Header) (s : List ℕ) (t : Table) where
     -- lists 7 and 8: maps, and their entries
     pub maps-part : k ≡ MAPS → (ms : List Mapped)
         × (run (mapsAt at h) s ≡ done ms)
-        × (tablePart 7 w t ≡ flat (λ e. e) (mapList (w .entries) ms))
-        × (walked 7 w t ≡ record { number = w .number; written = w .written; entries = w .entries + entryCount ms; to = w .to + 11 * h .count })
-        × (tablePart 8 w t ≡ flat (λ m. flat mapEntryWords (m .entries)) ms)
-        × (walked 8 w t ≡ moved w (2 * entryCount ms))
+        × (tablePart area.MAPS w t ≡ flat (λ e. e) (mapList (of ENTRIES (w .before)) ms))
+        × (walked area.MAPS w t ≡ record { number = w .number; before = more ENTRIES (entryCount ms) (w .before); to = w .to + 11 * h .count })
+        × (tablePart ENTRIES w t ≡ flat (λ m. flat mapEntryWords (m .entries)) ms)
+        × (walked ENTRIES w t ≡ moved w (2 * entryCount ms))
     unfolding walked tablePart
     maps-part q =
         let x = are-maps s k at h t e q in
         let ms = x .0 in
         let r : mapsIn (t .rows) ≡ ms = ap (λ (y : Table). mapsIn (y .rows)) (x .2) in
         let c : length ms ≡ h .count = sym (ap (λ (y : Table). rowCount (y .rows)) (x .2)) ∙ told s k at h t e .count in
-        let p : flat (λ e. e) (mapList (w .entries) (mapsIn (t .rows))) ≡ flat (λ e. e) (mapList (w .entries) ms) = ap (λ (l : List Mapped). flat (λ e. e) (mapList (w .entries) l)) r in
+        let p : flat (λ e. e) (mapList (of ENTRIES (w .before)) (mapsIn (t .rows))) ≡ flat (λ e. e) (mapList (of ENTRIES (w .before)) ms) = ap (λ (l : List Mapped). flat (λ e. e) (mapList (of ENTRIES (w .before)) l)) r in
         let o : flat (λ m. flat mapEntryWords (m .entries)) (mapsIn (t .rows)) ≡ flat (λ m. flat mapEntryWords (m .entries)) ms = ap (flat (λ m. flat mapEntryWords (m .entries))) r in (
           ms,
           x .1,
           p,
-          rw (r, maps-words (w .entries) ms, c) refl,
+          rw (r, maps-words (of ENTRIES (w .before)) ms, c) refl,
           o,
           ap (moved w) (ap length o ∙ entries-words ms),
         )
@@ -206,8 +198,8 @@ module _ (k at : ℕ) (h : Header) (s : List ℕ) (t : Table) where
     -- list 9: templates
     pub templates-part : k ≡ TTBL → (ts : List Template)
         × (run (templatesAt at h) s ≡ done ts)
-        × (tablePart 9 w t ≡ flat templateWords ts)
-        × (walked 9 w t ≡ moved w (12 * h .count))
+        × (tablePart TEMPLATES w t ≡ flat templateWords ts)
+        × (walked TEMPLATES w t ≡ moved w (12 * h .count))
     unfolding walked tablePart
     templates-part q =
         let x = are-templates s k at h t e q in

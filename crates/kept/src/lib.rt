@@ -12,23 +12,20 @@ ghost use Rattle.format.specs.Lists.{kept, unknowns, unknownWords};
 ghost use Rattle.format.specs.Parts as parts;
 ghost use Rattle.kept.specs.Unknown.{wordsOf};
 ghost use Rattle.kept.specs.Kinds.{headed, keptAt, Stands, hasAny};
-ghost use Rattle.kept.specs.Rows.{holdsDefinitions, hasEntries, firstOf, trailingOf, partBy, walkedBy};
+ghost use Rattle.kept.specs.Rows.{holdsDefinitions, hasEntries, trailingOf, partBy, walkedBy};
 use blob::Verdict;
+use element::NONE;
 use format::Descriptor;
 use format::EndRead;
 use format::Header;
 use format::Walk;
-use format::Written;
-
-// Kinds, by their numbers.
-const EVNT: u32 = 2;
-
-const MAPS: u32 = 5;
-
-const TTBL: u32 = 8;
-
-// Where a provider keeps no table of a kind: no place of a blob.
-const NONE: u32 = 4294967295;
+use format::kind::CHAN;
+use format::kind::EVNT;
+use format::kind::KINDS;
+use format::kind::MAPS;
+use format::kind::TTBL;
+use format::list;
+use format::list::row;
 
 // Whether tables of a kind have definitions.
 fn holds_definitions(kind: u32) -> bool
@@ -42,29 +39,17 @@ fn holds_definitions(kind: u32) -> bool
     }
 }
 
-// Whether tables of a kind have entries in a list, 4 to 9.
+// Whether tables of a kind have entries in a list.
 fn has_entries(list: u32, kind: u32) -> bool
     ensures { λ r. ⌜ r ≡ hasEntries list kind ⌝ }
 {
     match list {
-        4 => true,
-        5 => holds_definitions(kind),
-        6 => kind == EVNT,
-        7 => kind == MAPS,
-        8 => kind == MAPS,
+        list::TABLES => true,
+        list::DEFINITIONS => holds_definitions(kind),
+        list::EVENTS => kind == EVNT,
+        list::MAPS => kind == MAPS,
+        list::ENTRIES => kind == MAPS,
         _ => kind == TTBL,
-    }
-}
-
-// The number of the first entry that a table of a kind has in its list.
-fn first_of(w: Written, kind: u32) -> u32
-    ensures { λ r. ⌜ r ≡ firstOf w kind ⌝ }
-{
-    match kind {
-        EVNT => w.events,
-        MAPS => w.maps,
-        TTBL => w.templates,
-        _ => w.definitions,
     }
 }
 
@@ -108,13 +93,9 @@ fn moved(w: Walk, words: usize) -> Walk
     requires { ⌜ w .to + words ≤ 9223372036854775807 ⌝ }
     ensures { λ r. ⌜ r ≡ parts.moved w words ⌝ }
 {
-    let written = w.written;
-    Walk {
-        number: w.number,
-        written,
-        entries: w.entries,
-        to: w.to + words,
-    }
+    let mut out = w;
+    out.to = w.to + words;
+    out
 }
 
 // Stores a table's words, list 4's.
@@ -126,11 +107,9 @@ fn put_table(b: &[u8], kind: u32, at: usize, h: Header, w: Walk, area: &mut [u32
     ensures { λ _. ⌜ now (area .exit) ≡ laid (now (area .entry)) (w .to) (partBy 4 w (run (tableAt kind at h) (now (b .entry)))) ⌝ }
 {
     let t = trailing_of(b, kind, at, h);
-    let written = w.written;
-    let first = first_of(written, kind);
-    words::put_nine(
-        area,
-        w.to,
+    let before = w.before;
+    let first = before[counts::row_of(kind)];
+    let entry = [
         w.number,
         kind,
         at as u32,
@@ -140,11 +119,11 @@ fn put_table(b: &[u8], kind: u32, at: usize, h: Header, w: Walk, area: &mut [u32
         h.count,
         t.start,
         t.length,
-    );
+    ];
+    words::put(area, w.to, &entry);
     Walk {
         number: w.number,
-        written: counts::wrote(written, kind, h.count),
-        entries: w.entries,
+        before: counts::grow(before, kind, h.count),
         to: w.to + 9,
     }
 }
@@ -183,12 +162,12 @@ fn put_maps(b: &[u8], at: usize, h: Header, w: Walk, area: &mut [u32]) -> Walk
     ensures { λ _. ⌜ now (area .exit) ≡ laid (now (area .entry)) (w .to) (partBy 7 w (run (tableAt 5 at h) (now (b .entry)))) ⌝ }
 {
     let to = w.to;
-    let written = w.written;
-    let entries = map::fill_maps(b, at, h, w.entries, &mut area[to..]);
+    let mut before = w.before;
+    let entries = map::fill_maps(b, at, h, before[row::ENTRIES], &mut area[to..]);
+    before[row::ENTRIES] = entries;
     Walk {
         number: w.number,
-        written,
-        entries,
+        before,
         to: to + 11 * (h.count as usize),
     }
 }
@@ -219,21 +198,21 @@ fn put_templates(b: &[u8], at: usize, h: Header, w: Walk, area: &mut [u32]) -> W
     moved(w, 12 * (h.count as usize))
 }
 
-// Stores what a list, 4 to 9, has of a table of a kind that has entries in it.
+// Stores what a list has of a table of a kind that has entries in it.
 fn put_rows(b: &[u8], list: u32, kind: u32, at: usize, h: Header, w: Walk, area: &mut [u32]) -> Walk
     requires { ⌜ (1 ≤ kind) × (kind ≤ 8) × (at + header-length kind ≤ length (now b)) × (length (now b) ≤ 16777216) ⌝ }
     requires { ⌜ verdict (run (tableAt kind at h) (now b)) ≡ Verdict.Fine ⌝ }
-    requires { ⌜ (4 ≤ list) × (list ≤ 9) × (hasEntries list kind ≡ true) ⌝ }
+    requires { ⌜ hasEntries list kind ≡ true ⌝ }
     requires { ⌜ parts.fits (walkedBy list w (run (tableAt kind at h) (now b))) (length (now area)) ⌝ }
     ensures { λ r. ⌜ r ≡ walkedBy list w (run (tableAt kind at h) (now (b .entry))) ⌝ }
     ensures { λ _. ⌜ now (area .exit) ≡ laid (now (area .entry)) (w .to) (partBy list w (run (tableAt kind at h) (now (b .entry)))) ⌝ }
 {
     match list {
-        4 => put_table(b, kind, at, h, w, area),
-        5 => put_definitions(b, kind, at, h, w, area),
-        6 => put_events(b, at, h, w, area),
-        7 => put_maps(b, at, h, w, area),
-        8 => put_entries(b, at, h, w, area),
+        list::TABLES => put_table(b, kind, at, h, w, area),
+        list::DEFINITIONS => put_definitions(b, kind, at, h, w, area),
+        list::EVENTS => put_events(b, at, h, w, area),
+        list::MAPS => put_maps(b, at, h, w, area),
+        list::ENTRIES => put_entries(b, at, h, w, area),
         _ => put_templates(b, at, h, w, area),
     }
 }
@@ -249,7 +228,7 @@ fn header_of(b: &[u8], at: usize) -> Header
     }
 }
 
-// Whether a list, 4 to 9, has anything of the table of a kind that is kept at a place.
+// Whether a list has anything of the table of a kind that is kept at a place.
 fn has_any(list: u32, kind: u32, place: u32) -> bool
     ensures { λ r. ⌜ r ≡ hasAny list kind place ⌝ }
 {
@@ -261,7 +240,7 @@ fn has_any(list: u32, kind: u32, place: u32) -> bool
 
 // Stores what it has.
 fn put_kind(b: &[u8], list: u32, kind: u32, place: u32, w: Walk, area: &mut [u32]) -> Walk
-    requires { ⌜ (length (now b) ≤ 16777216) × (4 ≤ list) × (list ≤ 9) × (1 ≤ kind) × (kind ≤ 8) × (hasAny list kind place ≡ true) × Stands (now b) kind place ⌝ }
+    requires { ⌜ (length (now b) ≤ 16777216) × (1 ≤ kind) × (kind ≤ 8) × (hasAny list kind place ≡ true) × Stands (now b) kind place ⌝ }
     requires { ⌜ parts.fits (parts.walkedAll list w (keptAt (now b) kind place)) (length (now area)) ⌝ }
     ensures { λ r. ⌜ r ≡ parts.walkedAll list w (keptAt (now (b .entry)) kind place) ⌝ }
     ensures { λ _. ⌜ now (area .exit) ≡ laid (now (area .entry)) (w .to) (parts.tableParts list w (keptAt (now (b .entry)) kind place)) ⌝ }
@@ -270,18 +249,17 @@ fn put_kind(b: &[u8], list: u32, kind: u32, place: u32, w: Walk, area: &mut [u32
     put_rows(b, list, kind, at, header_of(b, at), w, area)
 }
 
-// Stores what a list, 4 to 9, has of the tables that n descriptors' elements keep, by kind.
+// Stores what a list has of the tables that n descriptors' elements keep, by kind.
 pub fn fill_tables(b: &[u8], start: usize, n: u32, list: u32, from: Walk, area: &mut [u32]) -> Walk
     requires { ⌜ (start + 8 * n ≤ length (now b)) × (length (now b) ≤ 16777216) ⌝ }
     requires { ⌜ verdict (run (elementsFrom n start) (now b)) ≡ Verdict.Fine ⌝ }
-    requires { ⌜ (4 ≤ list) × (list ≤ 9) ⌝ }
     requires { ⌜ parts.fits (parts.walkedAll list from (kept (values (run (elementsFrom n start) (now b))))) (length (now area)) ⌝ }
     ensures { λ r. ⌜ r ≡ parts.walkedAll list from (kept (values (run (elementsFrom n start) (now (b .entry))))) ⌝ }
     ensures { λ _. ⌜ now (area .exit) ≡ laid (now (area .entry)) (from .to) (parts.tableParts list from (kept (values (run (elementsFrom n start) (now (b .entry)))))) ⌝ }
 {
-    let mut places = [NONE; 9];
+    let mut places = [NONE; KINDS];
     element::place_tables(b, start, n, &mut places);
-    let mut kind = 1;
+    let mut kind = CHAN;
     let mut left: u32 = 8;
     let mut w = from;
     while 0 < left {
@@ -303,7 +281,8 @@ fn put_unknown(b: &[u8], d: Descriptor, number: u32, area: &mut [u32], to: usize
 {
     if element::kind_of(d.signature) == 0 {
         let size = blob::word(b, d.offset as usize + 4);
-        words::put_four(area, to, number, d.signature, d.offset, size);
+        let entry = [number, d.signature, d.offset, size];
+        words::put(area, to, &entry);
         return to + 4;
     }
     to

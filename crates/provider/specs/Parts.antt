@@ -3,69 +3,34 @@ use Prim.{tt}
 use Prim.Native.Nat.{ℕ, _+_, _*_, _≤_}
 use mathlib.Core.Path.{_≡_, refl, ap, sym, _∙_}
 use mathlib.Core.Bool.{Bool, true, false}
-use mathlib.Core.List.{List}
-use native.Mathlib.Nat.{zero-add}
+use mathlib.Core.List.{List, [], _∷_, map}
 use native.Mathlib.Omega.{arith}
-use lib.ListN.{length}
+use lib.ListN.{length, getD, set, drop}
 use lib.Dec.{leb}
 use borrow.Author.Tests.{leb-true}
 use Rattle.blob.specs.Le.{le}
 use Rattle.blob.specs.declared.Refusal.{Refusal}
 use Rattle.blob.specs.declared.Verdict.the-variants as verdicts
 use Rattle.blob.specs.Reading.{Reading, got, room, Outcome, done, refused, choose, run, number, many, each, verdict, values}
-use Rattle.blob.specs.Laws.{run-after, run-stopped, run-number, run-room, run-got, finds-number, many-fine, many-count, fine-done}
+use Rattle.blob.specs.Laws.{run-after, run-stopped, run-number, run-room, run-got, finds-number, many-fine, many-count, fine-done, not-fine}
 use Rattle.words.specs.Guid.{guid-found}
 use Rattle.format.specs.Field.{WEVT-descriptor-array, WEVT-unknown2-array}
 use Rattle.format.specs.Refuse.{whole}
-use Rattle.format.specs.Table.{MAPS}
 use Rattle.format.specs.Definition.{guidAt, step}
 use Rattle.format.specs.Provider.{Element, wevtAt, wevtRead, descriptorAt, elementAt, elementsFrom, providerAt}
 use Rattle.format.specs.Crim.{describedAt}
-use Rattle.format.specs.Lists.{kept, lastOf, unknowns}
 use Rattle.format.specs.Answer.{capped}
-use Rattle.format.specs.Needs.{entriesAll, elementsRead, tablesOf, cappedWritten, plus, none, providerRead}
+use Rattle.format.specs.Needs.{plus, providerRead}
 use Rattle.format.specs.declared.Guid.{Guid}
 use Rattle.format.specs.declared.Descriptor.{Descriptor}
 use Rattle.format.specs.declared.Wevt.{Wevt}
 use Rattle.format.specs.declared.WevtRead.the-variants as wevt
-use Rattle.format.specs.declared.Written.{Written}
-use Rattle.format.specs.declared.Counts.{Counts}
-use Rattle.format.specs.declared.ElementsRead.the-variants as elements
-use Rattle.format.specs.declared.NeedsRead.the-variants as needed
-use Rattle.element.specs.Counted.{kept-entries}
+use Rattle.format.specs.declared.Needed.{Needed}
+use Rattle.element.specs.Counted.{needsOf, neededFor}
 
--- what each list needs for a provider with such a header and such elements
-abbrev pub neededFor : Wevt → List Element → Counts
-neededFor w es =
-    plus none (record {
-      providers = 1;
-      descriptors = w .descriptors;
-      unknown2 = w .unknown2;
-      tables = tablesOf es .tables;
-      definitions = tablesOf es .definitions;
-      events = tablesOf es .events;
-      maps = tablesOf es .maps;
-      entries = entriesAll 0 (kept es);
-      templates = tablesOf es .templates;
-      unknown = length (unknowns es);
-    })
-
--- the ten numbers, each as far as it is counted
-pub counted : (w : Wevt) (es : List Element) (d u x n : ℕ) (t : Written) → d ≡ capped (0 + w .descriptors) → u ≡ capped (0 + w .unknown2)
-    → t ≡ cappedWritten (tablesOf es) → n ≡ capped (entriesAll 0 (kept es)) → x ≡ capped (0 + length (unknowns es))
-    → record {
-      providers = 1;
-      descriptors = d;
-      unknown2 = u;
-      tables = t .tables;
-      definitions = t .definitions;
-      events = t .events;
-      maps = t .maps;
-      entries = n;
-      templates = t .templates;
-      unknown = x;
-    } ≡ neededFor w es
-counted w es d u x n t p q r y z = rw (p, q, r, y, z) (simp zero-add)
+-- what each list needs for a provider with such a header, whose elements need so much
+abbrev pub own : List ℕ → Wevt → List ℕ
+own elements w = set (set (set elements 0 1) 1 (w .descriptors)) 2 (w .unknown2)
 
 -- what the answers tell of their readings
 is-wevt : (o : Outcome Wevt) (w : Wevt) → wevt.Wevt w ≡ wevtRead o → o ≡ done w
@@ -76,27 +41,31 @@ no-wevt : (o : Outcome Wevt) (r : Refusal) → wevt.Refused r ≡ wevtRead o →
 no-wevt (done v) r h = absurd (let z : _≡_ {A = ℕ} 0 1 = cc in omega arith)
 no-wevt (refused q) r h = cc
 
-is-fine : (o : Outcome (List Element)) (u n : ℕ) → elements.Fine u n ≡ elementsRead o
-    → (o ≡ done (values o)) × (u ≡ length (unknowns (values o))) × (n ≡ capped (entriesAll 0 (lastOf MAPS (values o))))
-is-fine (done es) u n h = (refl, cc, cc)
-is-fine (refused r) u n h = absurd (let z : _≡_ {A = ℕ} 0 1 = cc in omega arith)
+is-needed : (o : Outcome (List Element)) (n : Needed) → n ≡ neededFor o → n .verdict ≡ verdicts.Fine → (o ≡ done (values o)) × (n .counts ≡ map capped (needsOf (values o)))
+is-needed (done es) n h f = (refl, ap (λ (x : Needed). x .counts) h)
+is-needed (refused r) n h f = absurd (not-fine r (sym (ap (λ (x : Needed). x .verdict) h) ∙ f))
 
-not-fine : (o : Outcome (List Element)) (r : Refusal) → elements.Refused r ≡ elementsRead o → o ≡ refused r
-not-fine (done es) r h = absurd (let z : _≡_ {A = ℕ} 0 1 = cc in omega arith)
-not-fine (refused q) r h = cc
+not-needed : (o : Outcome (List Element)) (n : Needed) (r : Refusal) → n ≡ neededFor o → n .verdict ≡ verdicts.Refused r → o ≡ refused r
+not-needed (done es) n r h f = absurd (not-fine r (sym f ∙ ap (λ (x : Needed). x .verdict) h))
+not-needed (refused q) n r h f = let x : verdicts.Refused q ≡ verdicts.Refused r = sym (ap (λ (x : Needed). x .verdict) h) ∙ f in cc
+
+-- needs that are the same as far as anyone asks are the same once they are added
+capped-twice : (n : ℕ) → capped (capped n) ≡ capped n
+capped-twice n = omega arith
+
+plus-capped : (ns xs ys : List ℕ) → map capped xs ≡ map capped ys → plus ns xs ≡ plus ns ys
+unfolding plus
+plus-capped [] xs ys e = refl
+plus-capped (n ∷ ns) [] [] e = refl
+plus-capped (n ∷ ns) [] (y ∷ ys) e = absurd (let z = ap length e in omega (arith, z))
+plus-capped (n ∷ ns) (x ∷ xs) [] e = absurd (let z = ap length e in omega (arith, z))
+plus-capped (n ∷ ns) (x ∷ xs) (y ∷ ys) e =
+    let h : capped (n + x) ≡ capped (n + y) = omega (arith, ap (λ (l : List ℕ). getD l 0 0) e) in
+    rw (h, plus-capped ns xs ys (ap (λ (l : List ℕ). drop 1 l) e))
 
 has-refused : {A : Type 0} (o : Outcome A) (r : Refusal) → verdicts.Refused r ≡ verdict o → o ≡ refused r
 has-refused (done a) r h = absurd (let z : _≡_ {A = ℕ} 0 1 = cc in omega arith)
 has-refused (refused q) r h = cc
-
--- what the answer for the elements tells: of the kept tables only the MAPS has map entries
-pub fine-elements : (s : List ℕ) (c at u n : ℕ) → elements.Fine u n ≡ elementsRead (run (elementsFrom c at) s)
-    → (run (elementsFrom c at) s ≡ done (values (run (elementsFrom c at) s)))
-    × (u ≡ length (unknowns (values (run (elementsFrom c at) s))))
-    × (n ≡ capped (entriesAll 0 (kept (values (run (elementsFrom c at) s)))))
-fine-elements s c at u n v =
-    let f = is-fine (run (elementsFrom c at) s) u n v in
-    (f .0, f .1, f .2 ∙ ap capped (sym (kept-entries s c at (ap verdict (f .0)))))
 
 -- what the test of room tells
 module _ (e : ℕ) (t : ℕ → Refusal) (s : List ℕ) where
@@ -126,7 +95,7 @@ module _ (s : List ℕ) (at offset : ℕ) (o : offset ≡ le 4 s (at + 16)) wher
   unfolding describedAt guid
   described-run = rw (run-after (guidAt at) _ s _ (guid-found at s), run-number, ← o)
 
-  pub wevt-refused : (r : Refusal) → wevt.Refused r ≡ wevtRead (run (wevtAt offset) s) → needed.Refused r ≡ providerRead (run (describedAt at) s)
+  pub wevt-refused : (r : Refusal) → wevt.Refused r ≡ wevtRead (run (wevtAt offset) s) → run (describedAt at) s ≡ refused r
   unfolding providerAt
   wevt-refused r v = rw (described-run, run-stopped (wevtAt offset) _ s r (no-wevt _ r v))
 
@@ -138,12 +107,12 @@ module _ (s : List ℕ) (at offset : ℕ) (o : offset ≡ le 4 s (at + 16)) wher
     header = is-wevt _ w h
 
     pub array-refused : (r : Refusal) → verdicts.Refused r ≡ verdict (run (whole WEVT-descriptor-array (offset + 20) (8 * w .descriptors) (got (tt {0}))) s)
-        → needed.Refused r ≡ providerRead (run (describedAt at) s)
+        → run (describedAt at) s ≡ refused r
     unfolding providerAt
     array-refused r v = rw (described-run, run-after (wevtAt offset) _ s w header, had-none _ _ s _ r v)
 
     module _ (i : offset + 20 + 8 * w .descriptors ≤ length s) where
-      pub descriptors-refused : (r : Refusal) → verdicts.Refused r ≡ verdict (run array s) → needed.Refused r ≡ providerRead (run (describedAt at) s)
+      pub descriptors-refused : (r : Refusal) → verdicts.Refused r ≡ verdict (run array s) → run (describedAt at) s ≡ refused r
       unfolding providerAt
       descriptors-refused r v = rw (described-run, run-after (wevtAt offset) _ s w header, run-room, run-stopped array _ s r (has-refused _ r v))
 
@@ -156,7 +125,7 @@ module _ (s : List ℕ) (at offset : ℕ) (o : offset ≡ le 4 s (at + 16)) wher
 
         pub words-refused : (r : Refusal)
             → verdicts.Refused r ≡ verdict (run (whole WEVT-unknown2-array (offset + 20 + 8 * w .descriptors) (4 * w .unknown2) (got (tt {0}))) s)
-            → needed.Refused r ≡ providerRead (run (describedAt at) s)
+            → run (describedAt at) s ≡ refused r
         unfolding providerAt
         words-refused r v = rw (described-run, run-after (wevtAt offset) _ s w header, run-room, run-after array _ s _ descriptors, had-none _ _ s _ r v)
 
@@ -168,10 +137,10 @@ module _ (s : List ℕ) (at offset : ℕ) (o : offset ≡ le 4 s (at + 16)) wher
           elements-run : run (elementsFrom (w .descriptors) (offset + 20)) s ≡ run (each elementAt (values (run array s))) s
           elements-run = run-after array (each elementAt) s _ descriptors
 
-          pub elements-refused : (r : Refusal) → elements.Refused r ≡ elementsRead (run (elementsFrom (w .descriptors) (offset + 20)) s)
-              → needed.Refused r ≡ providerRead (run (describedAt at) s)
+          pub elements-refused : (n : Needed) (r : Refusal) → n ≡ neededFor (run (elementsFrom (w .descriptors) (offset + 20)) s) → n .verdict ≡ verdicts.Refused r
+              → run (describedAt at) s ≡ refused r
           unfolding providerAt
-          elements-refused r v =
+          elements-refused n r v e =
               rw (
                 described-run,
                 run-after (wevtAt offset) _ s w header,
@@ -179,12 +148,13 @@ module _ (s : List ℕ) (at offset : ℕ) (o : offset ≡ le 4 s (at + 16)) wher
                 run-after array _ s _ descriptors,
                 run-room,
                 run-after words _ s _ unknown2,
-                run-stopped (each elementAt _) _ s r (sym elements-run ∙ not-fine _ r v),
+                run-stopped (each elementAt _) _ s r (sym elements-run ∙ not-needed _ n r v e),
               )
 
-          needs-found : (es : List Element) → run (elementsFrom (w .descriptors) (offset + 20)) s ≡ done es → needed.Needs (neededFor w es) ≡ providerRead (run (describedAt at) s)
+          found : (es : List Element) → run (elementsFrom (w .descriptors) (offset + 20)) s ≡ done es
+              → run (describedAt at) s ≡ done (record { guid = guid; offset = offset; size = w .size; message = w .message; descriptors = values (run array s); unknown2 = values (run words s); elements = es })
           unfolding providerAt
-          needs-found es g =
+          found es g =
               rw (
                 described-run,
                 run-after (wevtAt offset) _ s w header,
@@ -194,10 +164,12 @@ module _ (s : List ℕ) (at offset : ℕ) (o : offset ≡ le 4 s (at + 16)) wher
                 run-after words _ s _ unknown2,
                 run-after (each elementAt _) _ s es (sym elements-run ∙ g),
                 run-got,
-                many-count descriptorAt (step 8) _ _ s _ descriptors,
-                many-count (number 4) (step 4) _ _ s _ unknown2,
               )
 
-          pub provider-found : (u n : ℕ) → elements.Fine u n ≡ elementsRead (run (elementsFrom (w .descriptors) (offset + 20)) s)
-              → needed.Needs (neededFor w (values (run (elementsFrom (w .descriptors) (offset + 20)) s))) ≡ providerRead (run (describedAt at) s)
-          provider-found u n v = needs-found _ (fine-elements s _ _ u n v .0)
+          pub provider-found : (needs : List ℕ) (n : Needed) → n ≡ neededFor (run (elementsFrom (w .descriptors) (offset + 20)) s) → n .verdict ≡ verdicts.Fine
+              → record { verdict = verdicts.Fine; counts = plus needs (own (n .counts) w) } ≡ providerRead needs (run (describedAt at) s)
+          provider-found needs n v e =
+              let f = is-needed (run (elementsFrom (w .descriptors) (offset + 20)) s) n v e in
+              let d = many-count descriptorAt (step 8) _ _ s _ descriptors in
+              let u = many-count (number 4) (step 4) _ _ s _ unknown2 in
+              rw (found _ (f .0), f .1, d, u) (ap (λ (ns : List ℕ). record { verdict = verdicts.Fine; counts = ns }) (plus-capped needs _ _ (simp capped-twice)))

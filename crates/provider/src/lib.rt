@@ -1,21 +1,19 @@
-// A provider's WEVT: its header, its descriptors and its unknown2 words.
+// A provider's WEVT: its header, its descriptors, its unknown2 words and its elements, checked and counted.
 ghost use mathlib.Core.Path.{_≡_};
 ghost use Prim.Native.Nat.{_+_, _*_, _≤_};
 ghost use lib.ListN.{length};
-ghost use Rattle.blob.specs.Reading.{run, number, many, verdict, values};
-ghost use Rattle.blob.specs.Laid.{laid, flat};
+ghost use Rattle.blob.specs.Reading.{run, many, verdict};
+ghost use Rattle.format.specs.Area.{none};
 ghost use Rattle.format.specs.Definition.{step};
-ghost use Rattle.format.specs.Lists.{descriptorWords, unknown2Words};
 ghost use Rattle.format.specs.Provider as spec;
 ghost use Rattle.format.specs.Crim.{describedAt};
-ghost use Rattle.format.specs.Needs.{elementsRead, providerRead};
-ghost use Rattle.provider.specs.Parts.{neededFor};
+ghost use Rattle.format.specs.Needs.{modest, plus, providerRead};
+ghost use Rattle.provider.specs.Parts.{own};
+use blob::Refusal;
 use blob::Verdict;
-use format::Counts;
 use format::Descriptor;
 use format::DescriptorRead;
-use format::ElementsRead;
-use format::NeedsRead;
+use format::Needed;
 use format::Wevt;
 use format::WevtRead;
 use format::field::WEVT_DESCRIPTOR_ARRAY;
@@ -24,9 +22,9 @@ use format::field::WEVT_ELEMENT_SIGNATURE;
 use format::field::WEVT_HEADER;
 use format::field::WEVT_PROVIDER_OFFSET;
 use format::field::WEVT_UNKNOWN2_ARRAY;
-
-// `WEVT` as a little-endian number.
-const WEVT: u32 = 0x54564557;
+use format::list::AREAS;
+use format::list::row;
+use format::signature::WEVT;
 
 // The header of the WEVT at a place.
 fn wevt_at(b: &[u8], at: usize) -> WevtRead
@@ -89,83 +87,36 @@ fn check_descriptors(b: &[u8], start: usize, n: u32) -> Verdict
     Verdict::Fine
 }
 
-// Stores a descriptor's words from a place of the area on.
-fn put(area: &mut [u32], to: usize, d: Descriptor)
-    requires { ⌜ to + 3 ≤ length (now area) ⌝ }
-    ensures { λ _. ⌜ now (area .exit) ≡ laid (now (area .entry)) to (descriptorWords d) ⌝ }
+// A refusal of a part of a provider.
+fn refused(r: Refusal) -> Needed
+    ensures { λ n. ⌜ n ≡ record { verdict = Verdict.Refused r; counts = none } ⌝ }
 {
-    area[to] = d.offset;
-    area[to + 1] = d.unknown;
-    area[to + 2] = d.signature;
-}
-
-// Stores the words of n descriptors that `check_descriptors` found fine.
-pub fn fill_descriptors(b: &[u8], start: usize, n: u32, area: &mut [u32])
-    requires { ⌜ start + 8 * n ≤ length (now b) ⌝ }
-    requires { ⌜ 3 * n ≤ length (now area) ⌝ }
-    requires { ⌜ verdict (run (many spec.descriptorAt (step 8) n start) (now b)) ≡ Verdict.Fine ⌝ }
-    ensures { λ _. ⌜ now (area .exit) ≡ laid (now (area .entry)) 0 (flat descriptorWords (values (run (many spec.descriptorAt (step 8) n start) (now (b .entry))))) ⌝ }
-{
-    let mut at = start;
-    let mut left = n;
-    let mut to = 0;
-    while 0 < left {
-        let DescriptorRead::Descriptor(d) = descriptor_at(b, at) else {
-            return;
-        };
-        put(area, to, d);
-        at += 8;
-        left -= 1;
-        to += 3;
+    Needed {
+        verdict: Verdict::Refused(r),
+        counts: [0; AREAS],
     }
 }
 
-// Stores n unknown2 words.
-pub fn fill_unknown2(b: &[u8], start: usize, n: u32, area: &mut [u32])
-    requires { ⌜ start + 4 * n ≤ length (now b) ⌝ }
-    requires { ⌜ n ≤ length (now area) ⌝ }
-    ensures { λ _. ⌜ now (area .exit) ≡ laid (now (area .entry)) 0 (flat unknown2Words (values (run (many (number 4) (step 4) n start) (now (b .entry))))) ⌝ }
+// What is needed with a provider that has such a header, and whose elements need so much.
+fn with_own(needs: [u32; AREAS], elements: [u32; AREAS], w: Wevt) -> [u32; AREAS]
+    requires { ⌜ modest needs ⌝ }
+    ensures { λ r. ⌜ r ≡ plus needs (own elements w) ⌝ }
 {
-    let mut at = start;
-    let mut left = n;
-    let mut to = 0;
-    while 0 < left {
-        area[to] = blob::word(b, at);
-        at += 4;
-        left -= 1;
-        to += 1;
-    }
+    let mut all = elements;
+    all[row::PROVIDERS] = 1;
+    all[row::DESCRIPTORS] = w.descriptors;
+    all[row::UNKNOWN2] = w.unknown2;
+    counts::add(needs, all)
 }
 
-// What each list needs for a provider whose parts are fine.
-fn needs_of(b: &[u8], start: usize, w: Wevt, unknown: u32, entries: u32) -> Counts
-    requires { ⌜ (start + 8 * w .descriptors ≤ length (now b)) × (length (now b) ≤ 16777216) ⌝ }
-    requires { ⌜ ElementsRead.Fine unknown entries ≡ elementsRead (run (spec.elementsFrom (w .descriptors) start) (now b)) ⌝ }
-    ensures { λ r. ⌜ r ≡ neededFor w (values (run (spec.elementsFrom (w .descriptors) start) (now (b .entry)))) ⌝ }
-{
-    let written = element::count_tables(b, start, w.descriptors);
-    Counts {
-        providers: 1,
-        descriptors: bounds::sum(0, w.descriptors),
-        unknown2: bounds::sum(0, w.unknown2),
-        tables: written.tables,
-        definitions: written.definitions,
-        events: written.events,
-        maps: written.maps,
-        entries,
-        templates: written.templates,
-        unknown: bounds::sum(0, unknown),
-    }
-}
-
-// Whether the provider is fine whose descriptor in the block stands at a place, and what each list needs for it.
-pub fn check(b: &[u8], at: usize) -> NeedsRead
-    requires { ⌜ (at + 20 ≤ length (now b)) × (length (now b) ≤ 16777216) ⌝ }
-    ensures { λ r. ⌜ r ≡ providerRead (run (describedAt at) (now (b .entry))) ⌝ }
+// Whether the provider is fine whose descriptor in the block stands at a place, and what is needed with it.
+pub fn check(b: &[u8], at: usize, needs: [u32; AREAS]) -> Needed
+    requires { ⌜ (at + 20 ≤ length (now b)) × (length (now b) ≤ 16777216) × modest needs ⌝ }
+    ensures { λ r. ⌜ r ≡ providerRead needs (run (describedAt at) (now (b .entry))) ⌝ }
 {
     let offset = blob::word(b, at + 16) as usize;
     let w = match wevt_at(b, offset) {
-        WevtRead::Refused(r) => return NeedsRead::Refused(r),
+        WevtRead::Refused(r) => return refused(r),
         WevtRead::Wevt(w) => w,
     };
     let start = offset + 20;
@@ -175,10 +126,10 @@ pub fn check(b: &[u8], at: usize) -> NeedsRead
         start,
         8 * (w.descriptors as usize),
     ) {
-        return NeedsRead::Refused(r);
+        return refused(r);
     }
     if let Verdict::Refused(r) = check_descriptors(b, start, w.descriptors) {
-        return NeedsRead::Refused(r);
+        return refused(r);
     }
     let words = start + 8 * (w.descriptors as usize);
     if let Verdict::Refused(r) = bounds::whole(
@@ -187,16 +138,16 @@ pub fn check(b: &[u8], at: usize) -> NeedsRead
         words,
         4 * (w.unknown2 as usize),
     ) {
-        return NeedsRead::Refused(r);
+        return refused(r);
     }
-    match element::check_elements(b, start, w.descriptors) {
-        ElementsRead::Refused(r) => NeedsRead::Refused(r),
-        ElementsRead::Fine(unknown, entries) => NeedsRead::Needs(needs_of(
-            b,
-            start,
-            w,
-            unknown,
-            entries,
-        )),
+    let e = element::check(b, start, w.descriptors);
+    let verdict = e.verdict;
+    if let Verdict::Refused(r) = verdict {
+        return refused(r);
+    }
+    let elements = e.counts;
+    Needed {
+        verdict: Verdict::Fine,
+        counts: with_own(needs, elements, w),
     }
 }

@@ -42,9 +42,9 @@ put-kind-requires c κs =
     let o = m .before .before .before .before .before .before .before in
     let most : m .before .loop .kind ≤ 8 = omega (arith, m .loop-test .taken, i .0) in
     let place = kind-place _ _ _ _ (i .4) (i .0 .0) most in (
-      (o .pre .0 .1, o .pre .1 .1 .0 .0, o .pre .1 .1 .0 .1, i .0 .0, most, sym (e .has-any .ensures) ∙ c .before .if1 .taken, stands _ _ _ _ (o .pre .1 .0) _ place),
+      (o .pre .0 .1, i .0 .0, most, sym (e .has-any .ensures) ∙ c .before .if1 .taken, stands _ _ _ _ (o .pre .1 .0) _ place),
       subst (λ (ts : List Table). fits (walkedAll (o .args .list) (m .before .loop .w) ts) (length (m .before .loop .area))) (kept-at _ _ _ _ (o .pre .1 .0) _ place (o .pre .0 .1))
-          (rest-fits _ _ _ _ _ (m .loop-test .taken) _ (subst (λ u. fits u (length (m .before .loop .area))) (i .2) (subst (fits _) (sym (i .1)) (o .pre .1 .1 .1)))),
+          (rest-fits _ _ _ _ _ (m .loop-test .taken) _ (subst (λ u. fits u (length (m .before .loop .area))) (i .2) (subst (fits (walkedAll (o .args .list) (o .args .from) (kept (values (run (elementsFrom (o .args .n) (o .args .start)) (o .args .b .now)))))) (sym (i .1)) (o .pre .1 .1)))),
     )
 
 add-kind : tie.Need-add-kind Inv-loop μ-loop
@@ -69,7 +69,7 @@ loop-again c =
     ⊎-elim
     {C = Put (values (run (elementsFrom (o .args .n) (o .args .start)) (o .args .b .now))) (o .args .list) (l .kind) (l .w) (c .if1 .w) (l .area) (c .if1 .area)}
     (λ t. put-here _ _ _ _ _ (o .pre .1 .0) _ place (o .pre .0 .1) _ _ _ _ (t .6 ∙ t .2 .ensures .0) (t .5 ∙ t .2 .ensures .1))
-    (λ t. put-none _ _ _ _ _ (o .pre .1 .0) _ place (o .pre .0 .1) _ _ _ _ (o .pre .1 .1 .0 .0) (o .pre .1 .1 .0 .1) (sym (e .has-any .ensures) ∙ t .0 .left) (t .2) (t .1))
+    (λ t. put-none _ _ _ _ _ (o .pre .1 .0) _ place (o .pre .0 .1) _ _ _ _ (sym (e .has-any .ensures) ∙ t .0 .left) (t .2) (t .1))
     (c .if1 .came) in (
       (omega arith, omega (arith, i .0, m .loop-test .taken)),
       ap length (x .1) ∙ length-laid _ _ _ ∙ i .1,

@@ -13,18 +13,18 @@ use Rattle.kept.proofs.put_kind.Tie as tie
 header-of-requires : tie.Need-header-of-requires
 header-of-requires c κs =
     let p = c .before .before .pre .0 in
-    omega (arith, p .6 (somewhere (c .before .before .args .list) (c .before .before .args .kind) _ (p .5) .0) .0, header-bytes _ (p .3) (p .4))
+    omega (arith, p .4 (somewhere (c .before .before .args .list) (c .before .before .args .kind) _ (p .3) .0) .0, header-bytes _ (p .1) (p .2))
 
 put-rows-requires : tie.Need-put-rows-requires
 put-rows-requires c κs =
     let d = c .before in
     let o = d .before .before .before in
     let p = o .pre .0 in
-    let h = somewhere (o .args .list) (o .args .kind) _ (p .5) in
-    let s = p .6 (h .0) in
+    let h = somewhere (o .args .list) (o .args .kind) _ (p .3) in
+    let s = p .4 (h .0) in
     let x = kind-here _ (o .args .list) _ _ (o .args .w) (h .0) (s .1) in (
-      (p .3, p .4, s .0, p .0),
-      (rw (d .header-of .ensures) (s .1), ((p .1, p .2, h .1), rw (d .header-of .ensures) (subst (λ u. fits u (length (o .args .area .now))) (sym (x .0)) (o .pre .1)))),
+      (p .1, p .2, s .0, p .0),
+      (rw (d .header-of .ensures) (s .1), (h .1, rw (d .header-of .ensures) (subst (λ u. fits u (length (o .args .area .now))) (sym (x .0)) (o .pre .1)))),
     )
 
 returns : tie.Need-returns
@@ -32,8 +32,8 @@ returns c =
     let r = c .before .before in
     let d = r .before .before in
     let o = d .before .before .before in
-    let h = somewhere (o .args .list) (o .args .kind) _ (o .pre .0 .5) .0 in
-    let x = kind-here _ (o .args .list) _ _ (o .args .w) h (o .pre .0 .6 h .1) in
+    let h = somewhere (o .args .list) (o .args .kind) _ (o .pre .0 .3) .0 in
+    let x = kind-here _ (o .args .list) _ _ (o .args .w) h (o .pre .0 .4 h .1) in
     (r .put-rows .ensures .0 ∙ rw (d .header-of .ensures) (x .0), r .put-rows .ensures .1 ∙ rw (d .header-of .ensures) (ap (laid _ _) (x .1)))
 
 same-length : tie.Need-same-length

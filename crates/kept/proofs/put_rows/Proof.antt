@@ -1,8 +1,11 @@
 -- By the list, and by the kind that has entries in it.
-use mathlib.Core.Path.{_≡_}
-use native.Mathlib.Omega.{arith}
+use mathlib.Core.Path.{sym, _∙_, subst}
+use lib.ListN.{length}
+use Rattle.blob.specs.Reading.{run}
+use Rattle.format.specs.Provider.{tableAt}
+use Rattle.format.specs.Parts.{fits}
 use borrow.Author.Tests.{eqb-true}
-use Rattle.kept.specs.Filled.{by-list, by-kind}
+use Rattle.kept.specs.Filled.{by-list, by-kind, as-templates, walked-templates}
 use borrow.Author.Needs.{needs}
 use Rattle.kept.proofs.put_rows.Statement.{statement}
 use Rattle.kept.proofs.put_rows.Tie as tie
@@ -17,14 +20,14 @@ put-definitions-requires : tie.Need-put-definitions-requires
 put-definitions-requires c κs =
     let m = c .before in
     let o = m .before .before .before in
-    let g = by-list _ _ _ _ _ _ _ _ (m .match .keys2) (o .pre .1 .1 .0 .2) (o .pre .1 .1 .1) in
+    let g = by-list _ _ _ _ _ _ _ _ (m .match .keys2) (o .pre .1 .1 .0) (o .pre .1 .1 .1) in
     (o .pre .0, ((g .0, o .pre .1 .0), g .1))
 
 put-events-requires : tie.Need-put-events-requires
 put-events-requires c κs =
     let m = c .before in
     let o = m .before .before .before in
-    let g = by-list _ 6 _ _ _ _ _ _ (m .match .keys3) (o .pre .1 .1 .0 .2) (o .pre .1 .1 .1) in
+    let g = by-list _ 6 _ _ _ _ _ _ (m .match .keys3) (o .pre .1 .1 .0) (o .pre .1 .1 .1) in
     let j = by-kind 6 _ 2 _ _ _ _ _ (g .0) (o .pre .0 .2) (o .pre .1 .0) (g .1) in
     (j .1, j .2)
 
@@ -32,7 +35,7 @@ put-maps-requires : tie.Need-put-maps-requires
 put-maps-requires c κs =
     let m = c .before in
     let o = m .before .before .before in
-    let g = by-list _ 7 _ _ _ _ _ _ (m .match .keys4) (o .pre .1 .1 .0 .2) (o .pre .1 .1 .1) in
+    let g = by-list _ 7 _ _ _ _ _ _ (m .match .keys4) (o .pre .1 .1 .0) (o .pre .1 .1 .1) in
     let j = by-kind 7 _ 5 _ _ _ _ _ (g .0) (o .pre .0 .2) (o .pre .1 .0) (g .1) in
     ((j .0, o .pre .0 .3), (j .1, j .2))
 
@@ -40,7 +43,7 @@ put-entries-requires : tie.Need-put-entries-requires
 put-entries-requires c κs =
     let m = c .before in
     let o = m .before .before .before in
-    let g = by-list _ 8 _ _ _ _ _ _ (m .match .keys5) (o .pre .1 .1 .0 .2) (o .pre .1 .1 .1) in
+    let g = by-list _ 8 _ _ _ _ _ _ (m .match .keys5) (o .pre .1 .1 .0) (o .pre .1 .1 .1) in
     let j = by-kind 8 _ 5 _ _ _ _ _ (g .0) (o .pre .0 .2) (o .pre .1 .0) (g .1) in
     ((j .0, o .pre .0 .3), (j .1, j .2))
 
@@ -48,9 +51,10 @@ put-templates-requires : tie.Need-put-templates-requires
 put-templates-requires c κs =
     let m = c .before in
     let o = m .before .before .before in
-    let e : o .args .list ≡ 9 = omega (arith, o .pre .1 .1 .0, m .match .rest) in
-    let g = by-list _ 9 _ _ _ _ _ _ e (o .pre .1 .1 .0 .2) (o .pre .1 .1 .1) in
-    let j = by-kind 9 _ 8 _ _ _ _ _ (g .0) (o .pre .0 .2) (o .pre .1 .0) (g .1) in
+    let r = m .match .rest in
+    let g = sym (as-templates (o .args .list) (r .0 .0 .0 .0 .1) (r .0 .0 .0 .1) (r .0 .0 .1) (r .0 .1) (r .1) (o .args .kind)) ∙ o .pre .1 .1 .0 in
+    let x = walked-templates (o .args .list) (r .0 .0 .0 .0 .1) (r .0 .0 .0 .1) (r .0 .0 .1) (r .0 .1) (r .1) (o .args .w) (run (tableAt (o .args .kind) (o .args .at) (o .args .h)) (o .args .b .now)) in
+    let j = by-kind 9 _ 8 _ _ _ _ _ g (o .pre .0 .2) (o .pre .1 .0) (subst (λ u. fits u (length (o .args .area .now))) (x .0) (o .pre .1 .1 .1)) in
     ((j .0, o .pre .0 .3), (j .1, j .2))
 
 same-length : tie.Need-same-length
@@ -81,7 +85,7 @@ returns-3 c =
     let p = c .before .before in
     let m = p .before .before in
     let o = m .before .before .before in
-    let g = by-list _ 6 _ _ _ _ _ _ (m .match .keys3) (o .pre .1 .1 .0 .2) (o .pre .1 .1 .1) in
+    let g = by-list _ 6 _ _ _ _ _ _ (m .match .keys3) (o .pre .1 .1 .0) (o .pre .1 .1 .1) in
     rw (m .match .keys3, eqb-true (o .args .kind) 2 (g .0)) (p .put-events .ensures)
 
 same-length-4 : tie.Need-same-length-4
@@ -92,7 +96,7 @@ returns-4 c =
     let p = c .before .before in
     let m = p .before .before in
     let o = m .before .before .before in
-    let g = by-list _ 7 _ _ _ _ _ _ (m .match .keys4) (o .pre .1 .1 .0 .2) (o .pre .1 .1 .1) in
+    let g = by-list _ 7 _ _ _ _ _ _ (m .match .keys4) (o .pre .1 .1 .0) (o .pre .1 .1 .1) in
     rw (m .match .keys4, eqb-true (o .args .kind) 5 (g .0)) (p .put-maps .ensures)
 
 same-length-5 : tie.Need-same-length-5
@@ -103,7 +107,7 @@ returns-5 c =
     let p = c .before .before in
     let m = p .before .before in
     let o = m .before .before .before in
-    let g = by-list _ 8 _ _ _ _ _ _ (m .match .keys5) (o .pre .1 .1 .0 .2) (o .pre .1 .1 .1) in
+    let g = by-list _ 8 _ _ _ _ _ _ (m .match .keys5) (o .pre .1 .1 .0) (o .pre .1 .1 .1) in
     rw (m .match .keys5, eqb-true (o .args .kind) 5 (g .0)) (p .put-entries .ensures)
 
 same-length-6 : tie.Need-same-length-6
@@ -114,9 +118,10 @@ returns-6 c =
     let p = c .before .before in
     let m = p .before .before in
     let o = m .before .before .before in
-    let e : o .args .list ≡ 9 = omega (arith, o .pre .1 .1 .0, m .match .rest) in
-    let g = by-list _ 9 _ _ _ _ _ _ (e) (o .pre .1 .1 .0 .2) (o .pre .1 .1 .1) in
-    rw (e, eqb-true (o .args .kind) 8 (g .0)) (p .put-templates .ensures)
+    let r = m .match .rest in
+    let g = sym (as-templates (o .args .list) (r .0 .0 .0 .0 .1) (r .0 .0 .0 .1) (r .0 .0 .1) (r .0 .1) (r .1) (o .args .kind)) ∙ o .pre .1 .1 .0 in
+    let x = walked-templates (o .args .list) (r .0 .0 .0 .0 .1) (r .0 .0 .0 .1) (r .0 .0 .1) (r .0 .1) (r .1) (o .args .w) (run (tableAt (o .args .kind) (o .args .at) (o .args .h)) (o .args .b .now)) in
+    rw (x .0, x .1, eqb-true (o .args .kind) 8 g) (p .put-templates .ensures)
 
 pub put-rows-spec : {M : Type 1} → statement M
 put-rows-spec =

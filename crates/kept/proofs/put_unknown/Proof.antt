@@ -4,6 +4,7 @@ use native.Mathlib.Omega.{arith}
 use borrow.Author.Tests.{eq-eqb, ne-eqb}
 use Rattle.blob.specs.Laid.{laid}
 use borrow.Author.Needs.{needs}
+use borrow.Author.Needs.{needs}
 use Rattle.kept.proofs.put_unknown.Statement.{statement}
 use Rattle.kept.proofs.put_unknown.Tie as tie
 
@@ -19,19 +20,22 @@ add-word c = search needs
 word-requires : tie.Need-word-requires
 word-requires c κs =
     let k = c .before .before in
-    let r = k .before .before .before .pre (sym (k .kind-of .ensures .0) ∙ c .before .if1 .taken) in
+    let r = c .before .before .before .before .before .pre (sym (k .kind-of .ensures .0) ∙ c .before .if1 .taken) in
     omega (arith, r .0)
 
-put-four-requires : tie.Need-put-four-requires
-put-four-requires c κs =
-    let k = c .before .before .before .before in
-    let r = k .before .before .before .pre (sym (k .kind-of .ensures .0) ∙ c .before .before .before .if1 .taken) in
+slice-aggregate-put : tie.Need-slice-aggregate-put
+slice-aggregate-put c = search needs
+
+put-requires : tie.Need-put-requires
+put-requires c κs =
+    let k = c .before .before .before .before .before in
+    let r = c .before .before .before .before .before .before .before .before .pre (sym (k .kind-of .ensures .0) ∙ c .before .before .before .before .if1 .taken) in
     r .1
 
 add-result : tie.Need-add-result
 add-result c =
-    let k = c .before .before .before .before .before .before .before in
-    let r = k .before .before .before .pre (sym (k .kind-of .ensures .0) ∙ c .before .before .before .before .before .before .if1 .taken) in
+    let k = c .before .before .before .before .before .before .before .before in
+    let r = c .before .before .before .before .before .before .before .before .before .before .before .pre (sym (k .kind-of .ensures .0) ∙ c .before .before .before .before .before .before .before .if1 .taken) in
     omega (arith, r .1)
 
 same-length : tie.Need-same-length
@@ -39,16 +43,14 @@ same-length c = search needs
 
 returns : tie.Need-returns
 returns c =
-    let p = c .before .before in
-    let s = p .before .before .before .before in
-    let e = eq-eqb _ _ (sym (s .before .kind-of .ensures .0) ∙ s .if1 .taken) in
-    rw (e, sym (p .before .before .word .ensures)) (refl, p .put-four .ensures)
+    let e = eq-eqb _ _ (sym (c .before .before .before .before .before .before .before .before .kind-of .ensures .0) ∙ c .before .before .before .before .before .before .before .if1 .taken) in
+    rw (e, sym (c .before .before .before .before .before .word .ensures)) (refl, c .before .before .put .ensures)
 
 returns-2 : tie.Need-returns-2
 unfolding laid
 returns-2 c =
     let e = ne-eqb _ _ (λ z. c .if1 .left (c .before .kind-of .ensures .0 ∙ z)) in
-    rw (e) (refl, refl)
+    rw e (refl, refl)
 
 pub put-unknown-spec : {M : Type 1} → statement M
 put-unknown-spec =
@@ -58,7 +60,8 @@ put-unknown-spec =
     cast-word
     add-word
     word-requires
-    put-four-requires
+    slice-aggregate-put
+    put-requires
     add-result
     same-length
     returns
