@@ -1,14 +1,16 @@
-// What lists 4 to 10 have of a provider's elements: of the tables that are kept, by kind, and of those of no known kind.
+// The fillers: what lists 2 to 10 have of a provider's descriptors, of its unknown2 words, of the tables that are kept, by kind, and of the
+// elements of no known kind.
 ghost use mathlib.Core.Path.{_≡_};
 ghost use mathlib.Core.Bool.{true};
 ghost use Prim.Native.Nat.{_+_, _*_, _≤_};
 ghost use lib.Dec.{eqb};
 ghost use lib.ListN.{length};
-ghost use Rattle.blob.specs.Reading.{run, verdict, values, choose};
+ghost use Rattle.blob.specs.Reading.{run, number, many, verdict, values, choose};
 ghost use Rattle.blob.specs.Laid.{laid, flat};
 ghost use Rattle.format.specs.Table.{header-length, kindOf};
-ghost use Rattle.format.specs.Provider.{tableAt, elementsFrom};
-ghost use Rattle.format.specs.Lists.{kept, unknowns, unknownWords};
+ghost use Rattle.format.specs.Definition.{step};
+ghost use Rattle.format.specs.Provider.{descriptorAt, tableAt, elementsFrom};
+ghost use Rattle.format.specs.Lists.{descriptorWords, unknown2Words, kept, unknowns, unknownWords};
 ghost use Rattle.format.specs.Parts as parts;
 ghost use Rattle.kept.specs.Unknown.{wordsOf};
 ghost use Rattle.kept.specs.Kinds.{headed, keptAt, Stands, hasAny};
@@ -26,6 +28,43 @@ use format::kind::MAPS;
 use format::kind::TTBL;
 use format::list;
 use format::list::row;
+
+// Stores the words of n descriptors that are fine.
+pub fn fill_descriptors(b: &[u8], start: usize, n: u32, area: &mut [u32])
+    requires { ⌜ start + 8 * n ≤ length (now b) ⌝ }
+    requires { ⌜ 3 * n ≤ length (now area) ⌝ }
+    requires { ⌜ verdict (run (many descriptorAt (step 8) n start) (now b)) ≡ Verdict.Fine ⌝ }
+    ensures { λ _. ⌜ now (area .exit) ≡ laid (now (area .entry)) 0 (flat descriptorWords (values (run (many descriptorAt (step 8) n start) (now (b .entry))))) ⌝ }
+{
+    let mut at = start;
+    let mut left = n;
+    let mut to = 0;
+    while 0 < left {
+        let d = element::descriptor_of(b, at);
+        let entry = [d.offset, d.unknown, d.signature];
+        words::put(area, to, &entry);
+        at += 8;
+        left -= 1;
+        to += 3;
+    }
+}
+
+// Stores n unknown2 words.
+pub fn fill_unknown2(b: &[u8], start: usize, n: u32, area: &mut [u32])
+    requires { ⌜ start + 4 * n ≤ length (now b) ⌝ }
+    requires { ⌜ n ≤ length (now area) ⌝ }
+    ensures { λ _. ⌜ now (area .exit) ≡ laid (now (area .entry)) 0 (flat unknown2Words (values (run (many (number 4) (step 4) n start) (now (b .entry))))) ⌝ }
+{
+    let mut at = start;
+    let mut left = n;
+    let mut to = 0;
+    while 0 < left {
+        area[to] = blob::word(b, at);
+        at += 4;
+        left -= 1;
+        to += 1;
+    }
+}
 
 // Whether tables of a kind have definitions.
 fn holds_definitions(kind: u32) -> bool

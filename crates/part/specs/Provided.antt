@@ -3,7 +3,7 @@ use Prim.Native.Nat.{ℕ, _+_, _*_, _-_, _≤_}
 use mathlib.Core.Path.{_≡_, refl, ap, ap₂, sym, _∙_, subst}
 use mathlib.Core.List.{List, [], _∷_}
 use native.Mathlib.Omega.{arith}
-use native.Mathlib.Nat.{add-zero}
+use native.Mathlib.Nat.{add-zero, one-mul}
 use lib.ListN.{length}
 use borrow.Rule.Slice.PartMut.{midOf, putMid}
 use borrow.Author.Tests.{ne-eqb}
@@ -13,6 +13,7 @@ use Rattle.blob.specs.Reading.{Outcome, done, run, number, many, each, answer, 
 use Rattle.blob.specs.Laid.{laid, flat, laid-area}
 use Rattle.blob.specs.Laws.{same, fine-value, run-after, many-count}
 use Rattle.blob.specs.Asks.{Finds, finds-got, finds-room, finds-demand, finds-next}
+use Rattle.format.specs.Area.{PROVIDERS, DESCRIPTORS, UNKNOWN2, UNKNOWN}
 use Rattle.format.specs.Definition.{guidAt, step}
 use Rattle.format.specs.Provider.{Provider, wevtAt, descriptorAt, elementAt, elementsFrom}
 use Rattle.format.specs.Crim.{describedAt}
@@ -30,9 +31,13 @@ partBy l w o = answer (part l w) (λ r. []) o
 abbrev pub passedBy : ℕ → Walk → Outcome Provider → Walk
 passedBy l w o = answer (passed l w) (λ r. w) o
 
+-- a list that goes over a provider's tables
+abbrev pub ofTables : ℕ → Type 0
+ofTables l = (l ≡ PROVIDERS → ⊥) × (l ≡ DESCRIPTORS → ⊥) × (l ≡ UNKNOWN2 → ⊥) × (l ≡ UNKNOWN → ⊥)
+
 -- a walk at the next provider fits where it does, and no words further is where it is
 pub fits-next : (w : Walk) (n : ℕ) → fits (next w) n → fits w n
-fits-next w n f = (f .0, omega (arith, f .1), f .2, f .3, f .4, f .5, f .6, f .7)
+fits-next w n f = (f .0, omega (arith, f .1), f .2, f .3)
 
 pub moved-none : (w : Walk) → next (moved w 0) ≡ next w
 moved-none w = simp add-zero
@@ -116,46 +121,51 @@ module _ (at : ℕ) (s : List ℕ) (v : verdict (run (describedAt at) s) ≡ ver
         subst (λ x. x ≤ n) (ap (λ (x : Walk). x .to) (passed-by l) ∙ passed-to l w (provided at s v .0) ∙ ap (λ (q : List ℕ). w .to + length q) (sym (part-by l) ∙ e)) (f .0)
 
     pub filled-1 : (g : Guid) → run (guidAt at) s ≡ done g
-        → (partBy 1 w (run (describedAt at) s) ≡ g .a ∷ g .b ∷ g .c ∷ g .d ∷ le 4 s (at + 16) ∷ h .size ∷ h .message ∷ h .descriptors ∷ h .unknown2 ∷ [])
-        × (passedBy 1 w (run (describedAt at) s) ≡ next (moved w 9))
+        → (partBy PROVIDERS w (run (describedAt at) s) ≡ g .a ∷ g .b ∷ g .c ∷ g .d ∷ le 4 s (at + 16) ∷ h .size ∷ h .message ∷ h .descriptors ∷ h .unknown2 ∷ [])
+        × (passedBy PROVIDERS w (run (describedAt at) s) ≡ next (moved w 9))
     unfolding part passed
     filled-1 g q =
         let x = given in
         let e : provided at s v .0 .guid ≡ g = same _ _ (sym (provided at s v .2 .guid) ∙ q) in (
-          part-by 1 ∙ rw (e, x .offset, x .size, x .message, many-count descriptorAt (step 8) _ _ s _ (x .descriptors), many-count (number 4) (step 4) _ _ s _ (x .unknown2)) refl,
-          passed-by 1,
+          part-by PROVIDERS ∙ rw (e, x .offset, x .size, x .message, many-count descriptorAt (step 8) _ _ s _ (x .descriptors), many-count (number 4) (step 4) _ _ s _ (x .unknown2)) refl,
+          passed-by PROVIDERS,
         )
 
-    pub filled-2 : (partBy 2 w (run (describedAt at) s) ≡ flat descriptorWords (values (run (many descriptorAt (step 8) (h .descriptors) (le 4 s (at + 16) + 20)) s)))
-        × (passedBy 2 w (run (describedAt at) s) ≡ next (moved w (3 * h .descriptors)))
+    pub filled-2 : (partBy DESCRIPTORS w (run (describedAt at) s) ≡ flat descriptorWords (values (run (many descriptorAt (step 8) (h .descriptors) (le 4 s (at + 16) + 20)) s)))
+        × (passedBy DESCRIPTORS w (run (describedAt at) s) ≡ next (moved w (3 * h .descriptors)))
     unfolding part passed
     filled-2 =
         let x = given in
-        (part-by 2 ∙ sym (ap (λ o. flat descriptorWords (values o)) (x .descriptors)), passed-by 2 ∙ ap (λ m. next (moved w (3 * m))) (many-count descriptorAt (step 8) _ _ s _ (x .descriptors)))
+        (part-by DESCRIPTORS ∙ sym (ap (λ o. flat descriptorWords (values o)) (x .descriptors)), passed-by DESCRIPTORS ∙ ap (λ m. next (moved w (3 * m))) (many-count descriptorAt (step 8) _ _ s _ (x .descriptors)))
 
-    pub filled-3 : (partBy 3 w (run (describedAt at) s) ≡ flat unknown2Words (values (run (many (number 4) (step 4) (h .unknown2) (le 4 s (at + 16) + 20 + 8 * h .descriptors)) s)))
-        × (passedBy 3 w (run (describedAt at) s) ≡ next (moved w (h .unknown2)))
+    pub filled-3 : (partBy UNKNOWN2 w (run (describedAt at) s) ≡ flat unknown2Words (values (run (many (number 4) (step 4) (h .unknown2) (le 4 s (at + 16) + 20 + 8 * h .descriptors)) s)))
+        × (passedBy UNKNOWN2 w (run (describedAt at) s) ≡ next (moved w (h .unknown2)))
     unfolding part passed
     filled-3 =
         let x = given in
-        (part-by 3 ∙ sym (ap (λ o. flat unknown2Words (values o)) (x .unknown2)), passed-by 3 ∙ ap (λ m. next (moved w m)) (many-count (number 4) (step 4) _ _ s _ (x .unknown2)))
+        (part-by UNKNOWN2 ∙ sym (ap (λ o. flat unknown2Words (values o)) (x .unknown2)), passed-by UNKNOWN2 ∙ ap (λ m. next (moved w m)) (one-mul _ ∙ many-count (number 4) (step 4) _ _ s _ (x .unknown2)))
 
-    pub filled-10 : (partBy 10 w (run (describedAt at) s) ≡ flat (unknownWords (w .number)) (unknowns (values (run (elementsFrom (h .descriptors) (le 4 s (at + 16) + 20)) s))))
-        × (passedBy 10 w (run (describedAt at) s) ≡ next (moved w (4 * length (unknowns (values (run (elementsFrom (h .descriptors) (le 4 s (at + 16) + 20)) s))))))
+    pub filled-10 : (partBy UNKNOWN w (run (describedAt at) s) ≡ flat (unknownWords (w .number)) (unknowns (values (run (elementsFrom (h .descriptors) (le 4 s (at + 16) + 20)) s))))
+        × (passedBy UNKNOWN w (run (describedAt at) s) ≡ next (moved w (4 * length (unknowns (values (run (elementsFrom (h .descriptors) (le 4 s (at + 16) + 20)) s))))))
     unfolding part passed
-    filled-10 = let x = given in rw (x .elements) (part-by 10, passed-by 10)
+    filled-10 = let x = given in rw (x .elements) (part-by UNKNOWN, passed-by UNKNOWN)
 
-    pub filled-tables : (l : ℕ) → 4 ≤ l → l ≤ 9
+    pub filled-tables : (l : ℕ) → ofTables l
         → (partBy l w (run (describedAt at) s) ≡ tableParts l w (kept (values (run (elementsFrom (h .descriptors) (le 4 s (at + 16) + 20)) s))))
         × (passedBy l w (run (describedAt at) s) ≡ next (walkedAll l w (kept (values (run (elementsFrom (h .descriptors) (le 4 s (at + 16) + 20)) s)))))
     unfolding part passed
-    filled-tables l a b =
+    filled-tables l f =
         let x = given in
-        let i = ne-eqb l 1 (λ z. omega arith) in
-        let j = ne-eqb l 2 (λ z. omega arith) in
-        let k = ne-eqb l 3 (λ z. omega arith) in
-        let m = ne-eqb l 10 (λ z. omega arith) in
+        let i = ne-eqb l PROVIDERS (f .0) in
+        let j = ne-eqb l DESCRIPTORS (f .1) in
+        let k = ne-eqb l UNKNOWN2 (f .2) in
+        let m = ne-eqb l UNKNOWN (f .3) in
         rw (x .elements) (part-by l ∙ rw (i, j, k, m) refl, passed-by l ∙ rw (i, j, k, m) refl)
+
+    pub tables-fit : (l : ℕ) → ofTables l → fits (passedBy l w (run (describedAt at) s)) n
+        → fits (walkedAll l w (kept (values (run (elementsFrom (h .descriptors) (le 4 s (at + 16) + 20)) s)))) n
+    tables-fit l f g =
+        fits-next (walkedAll l w (kept (values (run (elementsFrom (h .descriptors) (le 4 s (at + 16) + 20)) s)))) n (subst (λ (u : Walk). fits u n) (filled-tables l f .1) g)
 
   -- its words, laid into what is left of the list's area, are laid into the area
   pub area-laid : (w : Walk) (l : ℕ) (lent area ws : List ℕ) → fits (passedBy l w (run (describedAt at) s)) (length lent) → partBy l w (run (describedAt at) s) ≡ ws

@@ -8,11 +8,12 @@ ghost use Rattle.blob.specs.Laid.{laid};
 ghost use Rattle.format.specs.Provider.{wevtAt};
 ghost use Rattle.format.specs.Crim.{describedAt};
 ghost use Rattle.format.specs.Parts.{fits, next, moved};
-ghost use Rattle.part.specs.Provided.{partBy, passedBy};
+ghost use Rattle.part.specs.Provided.{partBy, passedBy, ofTables};
 use blob::Verdict;
 use format::Guid;
 use format::Walk;
 use format::Wevt;
+use format::list;
 
 // The header of the WEVT of a provider that is known to be fine, by the place of its descriptor in the block.
 fn wevt_of(b: &[u8], at: usize) -> Wevt
@@ -33,13 +34,10 @@ fn behind(w: Walk, words: usize) -> Walk
     requires { ⌜ (w .number ≤ 65536) × (w .to + words ≤ 9223372036854775807) ⌝ }
     ensures { λ r. ⌜ r ≡ next (moved w words) ⌝ }
 {
-    let written = w.written;
-    Walk {
-        number: w.number + 1,
-        written,
-        entries: w.entries,
-        to: w.to + words,
-    }
+    let mut out = w;
+    out.number = w.number + 1;
+    out.to = w.to + words;
+    out
 }
 
 // Stores its words, list 1's.
@@ -52,9 +50,7 @@ fn put_provider(b: &[u8], at: usize, w: Walk, area: &mut [u32]) -> Walk
     let g = words::guid_at(b, at);
     let v = wevt_of(b, at);
     let offset = blob::word(b, at + 16);
-    words::put_nine(
-        area,
-        w.to,
+    let entry = [
         g.a,
         g.b,
         g.c,
@@ -64,7 +60,8 @@ fn put_provider(b: &[u8], at: usize, w: Walk, area: &mut [u32]) -> Walk
         v.message,
         v.descriptors,
         v.unknown2,
-    );
+    ];
+    words::put(area, w.to, &entry);
     behind(w, 9)
 }
 
@@ -78,7 +75,7 @@ fn put_descriptors(b: &[u8], at: usize, w: Walk, area: &mut [u32]) -> Walk
     let v = wevt_of(b, at);
     let place = blob::word(b, at + 16) as usize;
     let to = w.to;
-    provider::fill_descriptors(b, place + 20, v.descriptors, &mut area[to..]);
+    kept::fill_descriptors(b, place + 20, v.descriptors, &mut area[to..]);
     behind(w, 3 * (v.descriptors as usize))
 }
 
@@ -92,7 +89,7 @@ fn put_unknown2(b: &[u8], at: usize, w: Walk, area: &mut [u32]) -> Walk
     let v = wevt_of(b, at);
     let place = blob::word(b, at + 16) as usize;
     let to = w.to;
-    provider::fill_unknown2(
+    kept::fill_unknown2(
         b,
         place + 20 + 8 * (v.descriptors as usize),
         v.unknown2,
@@ -115,10 +112,10 @@ fn put_unknown(b: &[u8], at: usize, w: Walk, area: &mut [u32]) -> Walk
     behind(w, words)
 }
 
-// Stores what a list, 4 to 9, has of its tables.
+// Stores what a list has of its tables.
 fn put_tables(b: &[u8], at: usize, list: u32, w: Walk, area: &mut [u32]) -> Walk
     requires { ⌜ (at + 20 ≤ length (now b)) × (length (now b) ≤ 16777216) × (verdict (run (describedAt at) (now b)) ≡ Verdict.Fine) ⌝ }
-    requires { ⌜ (4 ≤ list) × (list ≤ 9) × fits (passedBy list w (run (describedAt at) (now b))) (length (now area)) ⌝ }
+    requires { ⌜ ofTables list × fits (passedBy list w (run (describedAt at) (now b))) (length (now area)) ⌝ }
     ensures { λ r. ⌜ r ≡ passedBy list w (run (describedAt at) (now (b .entry))) ⌝ }
     ensures { λ _. ⌜ now (area .exit) ≡ laid (now (area .entry)) (w .to) (partBy list w (run (describedAt at) (now (b .entry)))) ⌝ }
 {
@@ -131,15 +128,15 @@ fn put_tables(b: &[u8], at: usize, list: u32, w: Walk, area: &mut [u32]) -> Walk
 // Stores what a list has of the provider whose descriptor in the block stands at a place, and that is known to be fine.
 pub fn fill(b: &[u8], at: usize, list: u32, w: Walk, area: &mut [u32]) -> Walk
     requires { ⌜ (at + 20 ≤ length (now b)) × (length (now b) ≤ 16777216) × (verdict (run (describedAt at) (now b)) ≡ Verdict.Fine) ⌝ }
-    requires { ⌜ (1 ≤ list) × (list ≤ 10) × fits (passedBy list w (run (describedAt at) (now b))) (length (now area)) ⌝ }
+    requires { ⌜ fits (passedBy list w (run (describedAt at) (now b))) (length (now area)) ⌝ }
     ensures { λ r. ⌜ r ≡ passedBy list w (run (describedAt at) (now (b .entry))) ⌝ }
     ensures { λ _. ⌜ now (area .exit) ≡ laid (now (area .entry)) (w .to) (partBy list w (run (describedAt at) (now (b .entry)))) ⌝ }
 {
     match list {
-        1 => put_provider(b, at, w, area),
-        2 => put_descriptors(b, at, w, area),
-        3 => put_unknown2(b, at, w, area),
-        10 => put_unknown(b, at, w, area),
+        list::PROVIDERS => put_provider(b, at, w, area),
+        list::DESCRIPTORS => put_descriptors(b, at, w, area),
+        list::UNKNOWN2 => put_unknown2(b, at, w, area),
+        list::UNKNOWN => put_unknown(b, at, w, area),
         _ => put_tables(b, at, list, w, area),
     }
 }

@@ -7,28 +7,32 @@ put-provider-requires : tie.Need-put-provider-requires
 put-provider-requires c κs =
     let m = c .before in
     let o = m .before .before .before in
-    ((o .pre .0 .0, o .pre .0 .2), rw (m .match .keys1) at (o .pre .1 .2))
+    ((o .pre .0 .0, o .pre .0 .2), rw (m .match .keys1) at (o .pre .1))
 
 put-descriptors-requires : tie.Need-put-descriptors-requires
 put-descriptors-requires c κs =
     let m = c .before in
     let o = m .before .before .before in
-    ((o .pre .0 .0, o .pre .0 .2), rw (m .match .keys2) at (o .pre .1 .2))
+    ((o .pre .0 .0, o .pre .0 .2), rw (m .match .keys2) at (o .pre .1))
 
 put-unknown2-requires : tie.Need-put-unknown2-requires
 put-unknown2-requires c κs =
     let m = c .before in
     let o = m .before .before .before in
-    ((o .pre .0 .0, o .pre .0 .2), rw (m .match .keys3) at (o .pre .1 .2))
+    ((o .pre .0 .0, o .pre .0 .2), rw (m .match .keys3) at (o .pre .1))
 
 put-unknown-requires : tie.Need-put-unknown-requires
 put-unknown-requires c κs =
     let m = c .before in
     let o = m .before .before .before in
-    (o .pre .0, rw (m .match .keys4) at (o .pre .1 .2))
+    (o .pre .0, rw (m .match .keys4) at (o .pre .1))
 
 put-tables-requires : tie.Need-put-tables-requires
-put-tables-requires c κs = search needs
+put-tables-requires c κs =
+    let m = c .before in
+    let o = m .before .before .before in
+    let r = m .match .rest in
+    (o .pre .0, ((r .0 .0 .0 .1, r .0 .0 .1, r .0 .1, r .1), o .pre .1))
 
 same-length : tie.Need-same-length
 same-length c = search needs

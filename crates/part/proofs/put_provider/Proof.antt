@@ -5,6 +5,7 @@ use lib.ListN.{length}
 use Rattle.blob.specs.Laid.{laid}
 use Rattle.part.specs.Provided.{started, part-room, filled-1}
 use borrow.Author.Needs.{needs}
+use borrow.Author.Needs.{needs}
 use Rattle.part.proofs.put_provider.Statement.{statement}
 use Rattle.part.proofs.put_provider.Tie as tie
 
@@ -20,17 +21,20 @@ add-word c = search needs
 word-requires : tie.Need-word-requires
 word-requires c κs = search needs
 
-put-nine-requires : tie.Need-put-nine-requires
-put-nine-requires c κs =
-    let v = c .before .before in
-    let o = v .before .before .before .before in
+slice-aggregate-put : tie.Need-slice-aggregate-put
+slice-aggregate-put c = search needs
+
+put-requires : tie.Need-put-requires
+put-requires c κs =
+    let v = c .before .before .before in
+    let o = c .before .before .before .before .before .before .before in
     let x = filled-1 _ _ (o .pre .0 .1) _ (v .wevt-of .ensures) (o .args .w) (length (o .args .area .now)) _ (v .before .guid-at .ensures) in
     part-room _ _ (o .pre .0 .1) _ (v .wevt-of .ensures) (o .args .w) (length (o .args .area .now)) 1 _ (x .0) (o .pre .1)
 
 behind-requires : tie.Need-behind-requires
 behind-requires c κs =
-    let v = c .before .before .before .before .before in
-    let o = v .before .before .before .before in
+    let v = c .before .before .before .before .before .before in
+    let o = c .before .before .before .before .before .before .before .before .before .before in
     let x = filled-1 _ _ (o .pre .0 .1) _ (v .wevt-of .ensures) (o .args .w) (length (o .args .area .now)) _ (v .before .guid-at .ensures) in
     (started _ _ (o .pre .0 .1) _ (v .wevt-of .ensures) (o .args .w) (length (o .args .area .now)) 1 (o .pre .1) .1, omega (arith, part-room _ _ (o .pre .0 .1) _ (v .wevt-of .ensures) (o .args .w) (length (o .args .area .now)) 1 _ (x .0) (o .pre .1)))
 
@@ -39,12 +43,10 @@ same-length c = search needs
 
 returns : tie.Need-returns
 returns c =
-    let n = c .before .before .before in
-    let f = n .before .before in
-    let v = f .before in
-    let o = v .before .before .before .before in
+    let v = c .before .before .before .before .before .before .before in
+    let o = c .before .before .before .before .before .before .before .before .before .before .before in
     let x = filled-1 _ _ (o .pre .0 .1) _ (v .wevt-of .ensures) (o .args .w) (length (o .args .area .now)) _ (v .before .guid-at .ensures) in
-    (c .behind .ensures ∙ sym (x .1), n .put-nine .ensures ∙ ap (laid _ _) (rw (f .word .ensures) (sym (x .0))))
+    (c .behind .ensures ∙ sym (x .1), c .before .before .before .put .ensures ∙ ap (laid _ _) (rw (c .before .before .before .before .before .before .word .ensures) (sym (x .0))))
 
 pub put-provider-spec : {M : Type 1} → statement M
 put-provider-spec =
@@ -54,7 +56,8 @@ put-provider-spec =
     wevt-of-requires
     add-word
     word-requires
-    put-nine-requires
+    slice-aggregate-put
+    put-requires
     behind-requires
     same-length
     returns)

@@ -1,11 +1,11 @@
 -- What the list has of its tables, laid behind what it has so far.
-use mathlib.Core.Path.{ap, sym, _∙_, subst}
+use mathlib.Core.Path.{ap, sym, _∙_}
 use native.Mathlib.Omega.{arith}
 use lib.ListN.{length}
 use Rattle.blob.specs.Reading.{verdict}
 use Rattle.blob.specs.Laid.{laid}
-use Rattle.format.specs.Parts.{fits, next}
-use Rattle.part.specs.Provided.{given, filled-tables, fits-next, moved-none}
+use Rattle.format.specs.Parts.{next}
+use Rattle.part.specs.Provided.{given, filled-tables, tables-fit, moved-none}
 use borrow.Author.Needs.{needs}
 use Rattle.part.proofs.put_tables.Statement.{statement}
 use Rattle.part.proofs.put_tables.Tie as tie
@@ -29,18 +29,16 @@ fill-tables-requires : tie.Need-fill-tables-requires
 fill-tables-requires c κs =
     let v = c .before .before in
     let o = v .before .before .before in
-    let x = filled-tables _ _ (o .pre .0 .2) _ (v .wevt-of .ensures) (o .args .w) (length (o .args .area .now)) _ (o .pre .1 .0) (o .pre .1 .1) in
     let g = given _ _ (o .pre .0 .2) _ (v .wevt-of .ensures) in
-    let r = subst (λ u. fits u (length (o .args .area .now))) (x .1) (o .pre .1 .2) in
-    rw (c .before .word .ensures) ((g .array, o .pre .0 .1), (ap verdict (g .elements), ((o .pre .1 .0, o .pre .1 .1), fits-next _ _ r)))
+    let r = tables-fit _ _ (o .pre .0 .2) _ (v .wevt-of .ensures) (o .args .w) (length (o .args .area .now)) _ (o .pre .1 .0) (o .pre .1 .1) in
+    rw (c .before .word .ensures) ((g .array, o .pre .0 .1), (ap verdict (g .elements), r))
 
 behind-requires : tie.Need-behind-requires
 behind-requires c κs =
     let f = c .before .before in
     let v = f .before .before .before in
     let o = v .before .before .before in
-    let x = filled-tables _ _ (o .pre .0 .2) _ (v .wevt-of .ensures) (o .args .w) (length (o .args .area .now)) _ (o .pre .1 .0) (o .pre .1 .1) in
-    let r = fits-next _ _ (subst (λ u. fits u (length (o .args .area .now))) (x .1) (o .pre .1 .2)) in
+    let r = tables-fit _ _ (o .pre .0 .2) _ (v .wevt-of .ensures) (o .args .w) (length (o .args .area .now)) _ (o .pre .1 .0) (o .pre .1 .1) in
     let e = rw (f .before .before .word .ensures) at (f .fill-tables .ensures .0) in
     rw (e) (r .1, omega (arith, r .0, v .before))
 
@@ -52,7 +50,7 @@ returns c =
     let f = c .before .before .before in
     let v = f .before .before .before in
     let o = v .before .before .before in
-    let x = filled-tables _ _ (o .pre .0 .2) _ (v .wevt-of .ensures) (o .args .w) (length (o .args .area .now)) _ (o .pre .1 .0) (o .pre .1 .1) in
+    let x = filled-tables _ _ (o .pre .0 .2) _ (v .wevt-of .ensures) (o .args .w) (length (o .args .area .now)) _ (o .pre .1 .0) in
     let q = rw (f .before .before .word .ensures) at (f .fill-tables .ensures) in
     (c .behind .ensures ∙ moved-none _ ∙ ap next (q .0) ∙ sym (x .1), q .1 ∙ ap (laid _ _) (sym (x .0)))
 
