@@ -11,16 +11,16 @@ use blob::Refusal;
 use blob::Verdict;
 use format::EndRead;
 
-// So many bytes are needed from a place on.
-pub fn truncated(b: &[u8], field: u8, at: usize, needed: usize) -> Refusal
-    ensures { λ r. ⌜ r ≡ refuse.truncated field at needed (length (now (b .entry))) ⌝ }
+// So many bytes are needed from a place on, before an end.
+pub fn truncated(end: usize, field: u8, at: usize, needed: usize) -> Refusal
+    ensures { λ r. ⌜ r ≡ refuse.truncated field at needed end ⌝ }
 {
     Refusal {
         code: 1,
         field,
         place: at as u64,
         first: needed as u64,
-        second: blob::have(b, at),
+        second: blob::have(end, at),
     }
 }
 
@@ -63,15 +63,15 @@ pub fn count_out(field: u8, at: usize, count: u32) -> Refusal
     }
 }
 
-// A place is past the blob.
-pub fn offset_out(b: &[u8], field: u8, at: usize) -> Refusal
-    ensures { λ r. ⌜ r ≡ refuse.offset-out field at (length (now (b .entry))) ⌝ }
+// A place is past an end.
+pub fn offset_out(end: usize, field: u8, at: usize) -> Refusal
+    ensures { λ r. ⌜ r ≡ refuse.offset-out field at end ⌝ }
 {
     Refusal {
         code: 5,
         field,
         place: at as u64,
-        first: b.len() as u64,
+        first: end as u64,
         second: 0,
     }
 }
@@ -109,7 +109,7 @@ pub fn whole(b: &[u8], field: u8, at: usize, needed: usize) -> Verdict
     if has_room(b, at, needed) {
         return Verdict::Fine;
     }
-    Verdict::Refused(truncated(b, field, at, needed))
+    Verdict::Refused(truncated(b.len(), field, at, needed))
 }
 
 // Where a structure ends whose size, of at least so many bytes, is not 0.

@@ -102,16 +102,16 @@ coded-text f o (suc left) at k waits =
     coded-next 2 at (λ u. coded-choose waits (coded-demand _ _ (λ n. some) (coded-text f o left (at + 2) (k + 1) false))
     (coded-choose (eqb u 0) coded-got (coded-demand _ _ (λ n. some) (coded-text f o left (at + 2) (k + 1) (high u)))))
 
-coded-name : (f o : ℕ) → Coded (nameAt f o)
-unfolding nameAt sized
-coded-name f o =
-    coded-choose (eqb o 0) coded-got (coded-room (λ n. some) (coded-room (λ n. some) (coded-next 4 o (λ size.
-    coded-demand _ _ (λ n. some) (coded-room (λ n. some) (coded-demand _ _ (λ n. some) (coded-text f o _ _ 0 false)))))))
-
 coded-inside : {A : Type 0} (region : Region) (p : ℕ) (r : ℕ → Refusal) {k : Reading A} → ((n : ℕ) → 1 ≤ r n .code) → Coded k → Coded (inside region p r k)
 unfolding inside
 coded-inside blob-end p r h g = coded-room h g
-coded-inside (until e) p r h g = coded-demand _ _ h g
+coded-inside (until e) p r h g = coded-demand _ (λ n. r e) (λ n. h e) g
+
+coded-name : (region : Region) (f o : ℕ) → Coded (nameAt region f o)
+unfolding nameAt sized
+coded-name region f o =
+    coded-choose (eqb o 0) coded-got (coded-inside region _ _ (λ n. some) (coded-inside region _ _ (λ n. some) (coded-next 4 o (λ size.
+    coded-demand _ _ (λ n. some) (coded-inside region _ _ (λ n. some) (coded-demand _ _ (λ n. some) (coded-text f o _ _ 0 false)))))))
 
 coded-bounded : (f at size least : ℕ) → Coded (bounded f at size least)
 unfolding bounded
@@ -146,7 +146,7 @@ coded-fields k at =
 coded-definitions : (k at : ℕ) (h : Header) → Coded (definitionsAt k at h)
 unfolding definitionsAt definitionAt
 coded-definitions k at h =
-    coded-bind (coded-end k at h) (λ e. coded-many _ _ (λ p. coded-bind (coded-fields k p) (λ d. coded-bind (coded-name _ _) (λ n. coded-got))) _ _)
+    coded-bind (coded-end k at h) (λ e. coded-many _ _ (λ p. coded-bind (coded-fields k p) (λ d. coded-bind (coded-name _ _ _) (λ n. coded-got))) _ _)
 
 coded-event : (at : ℕ) → Coded (eventAt at)
 unfolding eventAt
@@ -181,7 +181,7 @@ coded-map region at =
     (coded-room (λ n. some) (coded-next 4 (at + 4) (λ size. coded-demand _ _ (λ n. some) (coded-inside region _ _ (λ n. some) (coded-inside region _ _ (λ n. some) (
     coded-next 4 (at + 8) (λ string. coded-next 4 (at + 12) (λ count. coded-demand _ _ (λ n. some) (
     coded-bind (coded-many _ _ (λ p. coded-next 4 p (λ i. coded-next 4 (p + 4) (λ m. coded-got))) count (at + 16)) (λ entries.
-    coded-bind (coded-name _ string) (λ name. coded-got)))))))))))
+    coded-bind (coded-name _ _ string) (λ name. coded-got)))))))))))
     coded-got)))
 
 coded-maps : (at : ℕ) (h : Header) → Coded (mapsAt at h)

@@ -79,11 +79,21 @@ module _ (s : List ℕ) where
           → Finds r s (λ n qs. (k ≤ n .units) × Asked s (span at 2 ++ qs) (unitBytes at k n))
       more ih = finds-so ih longer
 
-  name-asks : (f o : ℕ) → Finds (nameAt f o) s (λ n ps. Asked s ps (nameBytes o n))
+  -- a region that ends at a place ends within the blob
+  abbrev Ends : Region → Type 0
+  Ends blob-end = Unit {0}
+  Ends (until e) = e ≤ length s
+
+  finds-inside : {A : Type 0} {P : A → List ℕ → Type 0} (r : Region) (p : ℕ) (x : ℕ → Refusal) {k : Reading A} → Ends r → (p ≤ length s → Finds k s P) → Finds (inside r p x k) s P
+  unfolding inside
+  finds-inside blob-end p x h g = finds-room g
+  finds-inside (until e) p x h g = finds-demand (leb p e) _ (λ t. g (omega (arith, leb-true p e t)))
+
+  name-asks : (r : Region) (f o : ℕ) → Ends r → Finds (nameAt r f o) s (λ n ps. Asked s ps (nameBytes o n))
   unfolding nameAt sized nameBytes
-  name-asks f o =
+  name-asks r f o h =
       finds-choose (eqb o 0) (λ e. finds-got (rw e asked-none)) (λ e.
-      finds-room (λ a. finds-room (λ b. finds-next 4 o (λ size es. finds-demand _ _ (λ d. finds-room (λ w. finds-demand _ _ (λ v.
+      finds-inside r _ _ h (λ a. finds-inside r _ _ h (λ b. finds-next 4 o (λ size es. finds-demand _ _ (λ d. finds-inside r _ _ h (λ w. finds-demand _ _ (λ v.
       let four : 4 ≤ size = leb-true 4 size d in
       finds-so (text-asks f o ((size - 4) / 2) (o + 4) 0 false (omega arith)) (λ n qs g.
       rw e (subst (λ w. Asked s (span o 4 ++ qs) (span o 4 ++ span (o + 4) w)) (omega arith) (asked-append (asked-span o 4 b) (g .1)))))))))))
@@ -120,7 +130,7 @@ module _ (s : List ℕ) where
       → Finds (definitionAt k at) s (λ d ps. Asked s ps (definitionBytes k at d))
   unfolding definitionAt
   definition-asks k at fields h =
-      finds-fixed _ _ fields (λ d _. finds-bind _ (name-asks _ (d .offset)) (λ n ps g. finds-got (asked-append (asked-span at (stride k) h) (asked-last g))))
+      finds-fixed _ _ fields (λ d _. finds-bind _ (name-asks blob-end _ (d .offset) tt) (λ n ps g. finds-got (asked-append (asked-span at (stride k) h) (asked-last g))))
 
   event-asks : (at : ℕ) → at + 48 ≤ length s → Finds (eventAt at) s (λ e ps. Asked s ps (span at 48))
   unfolding eventAt
@@ -141,20 +151,10 @@ module _ (s : List ℕ) where
   unfolding bounded
   bounded-asks f at size least = finds-demand _ _ (λ d. finds-room (λ h. finds-got (refl, h)))
 
-  -- a region that ends at a place ends within the blob
-  abbrev Ends : Region → Type 0
-  Ends blob-end = Unit {0}
-  Ends (until e) = e ≤ length s
-
   region-asks : (f at size least : ℕ) → Finds (regionAt f at size least) s (λ r ps. ([] ≡ ps) × Ends r)
   unfolding regionAt
   region-asks f at size least =
       finds-choose (eqb size 0) (λ e. finds-got (refl, tt)) (λ e. finds-fixed [] _ (bounded-asks f at size least) (λ e h. finds-got (refl, h)))
-
-  finds-inside : {A : Type 0} {P : A → List ℕ → Type 0} (r : Region) (p : ℕ) (x : ℕ → Refusal) {k : Reading A} → Ends r → (p ≤ length s → Finds k s P) → Finds (inside r p x k) s P
-  unfolding inside
-  finds-inside blob-end p x h g = finds-room g
-  finds-inside (until e) p x h g = finds-demand (leb p e) x (λ t. g (omega (arith, leb-true p e t)))
 
   pub end-asks : (k at : ℕ) (h : Header) → Finds (tableEnd k at h) s (λ e ps. ([] ≡ ps) × (at + header-length k + stride k * h .count ≤ length s))
   unfolding tableEnd
@@ -200,7 +200,7 @@ module _ (s : List ℕ) where
       finds-room (λ a. finds-next 4 (at + 4) (λ z ez. finds-demand _ _ (λ l. finds-inside r _ _ h (λ b. finds-inside r _ _ h (λ w.
       finds-next 4 (at + 8) (λ o eo. finds-next 4 (at + 12) (λ n en. finds-demand _ _ (λ t.
       finds-bind _ (finds-rows 8 (λ p e. span p 8) entry-asks n (at + 16) (omega (arith, leb-true (16 + 8 * n) z t))) (λ es ps g.
-      finds-bind _ (name-asks _ o) (λ m qs k.
+      finds-bind _ (name-asks blob-end _ o tt) (λ m qs k.
       finds-got (simp (span-join, append-nil) (asked-append (asked-span at 16 b) (asked-append (g .0) k)))))))))))))
 
   other-map-asks : (r : Region) (at sig : ℕ) → at + 4 ≤ length s → Asked s (span at 4) (mapBytes (otherMap r at sig))

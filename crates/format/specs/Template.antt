@@ -8,7 +8,7 @@ use Rattle.blob.specs.declared.Refusal.{Refusal}
 use Rattle.blob.specs.Reading.{Reading, got, stop, Outcome, choose, demand, _>>=_, number, many, answer}
 use Rattle.format.specs.Field.{TEMP-header, TEMP-size, TEMP-item-name-count-expected-0, TEMP-template-items-offset, TEMP-template-items-offset-relative, table-size}
 use Rattle.format.specs.Refuse.{fine, truncated, wrong-signature, size-out, count-out, offset-out}
-use Rattle.format.specs.Region.{Region, end, inside, regionAt}
+use Rattle.format.specs.Region.{Region, inside, regionAt}
 use Rattle.format.specs.Table.{TTBL, header-length}
 use Rattle.format.specs.Definition.{guidAt}
 use Rattle.format.specs.declared.Header.{Header}
@@ -73,7 +73,7 @@ templateFields at size =
 
 unfoldable pub templateAt : Region → ℕ → Reading Template
 templateAt region at =
-    inside region (at + 40) (λ n. truncated TEMP-header at 40 (end n region)) (
+    inside region (at + 40) (truncated TEMP-header at 40) (
     number 4 at >>= λ found.
     demand (eqb found TEMP) (wrong-signature at TEMP found) (
     number 4 (at + 4) >>= λ size.

@@ -16,7 +16,7 @@ use Rattle.blob.specs.Laws.{fine-done, run-bind, run-number, run-room, run-past
 use Rattle.blob.specs.Asks.{Finds, finds-got, finds-room, finds-choose, finds-demand, finds-bind, finds-next}
 use Rattle.format.specs.Field.{MAPS-map-offset, MAPS-map-signature, VMAP-size-field, VMAP-header, VMAP-size, VMAP-entries-array, VMAP-map-string}
 use Rattle.format.specs.Refuse.{truncated, size-out, offset-out}
-use Rattle.format.specs.Region.{until, inside}
+use Rattle.format.specs.Region.{blob-end, until, against, inside}
 use Rattle.format.specs.Name.{nameAt}
 use Rattle.format.specs.Definition.{step}
 use Rattle.format.specs.Map.{Mapped, VMAP, few, entryAt, valueMapAt, otherMap, mapAt, mapRead}
@@ -110,7 +110,7 @@ module _ (e at : ℕ) (s : List ℕ) where
 
       module _ (string count : ℕ) (eo : string ≡ le 4 s (at + 8)) (ec : count ≡ le 4 s (at + 12)) (g : at + size ≤ e) where
         -- the tests before that of the entries are passed
-        behind : (k : ℕ → ℕ → Reading Mapped) → run (demand (leb 16 size) (few (until e) at size) (demand (leb (at + 16) e) (few (until e) at size) (demand (leb (at + size) e) (size-out VMAP-size at size)
+        behind : (k : ℕ → ℕ → Reading Mapped) → run (demand (leb 16 size) (against (until e) (few at size)) (demand (leb (at + 16) e) (against (until e) (few at size)) (demand (leb (at + size) e) (size-out VMAP-size at size)
             (number 4 (at + 8) >>= λ o. number 4 (at + 12) >>= λ n. k o n)))) s ≡ run (k string count) s
         behind k =
             run-holds _ _ _ _ (le-leb _ _ l)
@@ -125,13 +125,13 @@ module _ (e at : ℕ) (s : List ℕ) where
         value-over f = run-room _ _ _ _ h ∙ run-number _ _ _ _ ∙ rw (sym es) (behind _ ∙ run-fails _ _ _ _ (lt-leb _ _ f))
 
         module _ (f : 16 + 8 * count ≤ size) where
-          tested : run (valueMapAt (until e) at) s ≡ run (entries count (at + 16) >>= λ es. nameAt VMAP-map-string string >>= λ name. got (record { map = valueMap at size string count name; entries = es })) s
+          tested : run (valueMapAt (until e) at) s ≡ run (entries count (at + 16) >>= λ es. nameAt blob-end VMAP-map-string string >>= λ name. got (record { map = valueMap at size string count name; entries = es })) s
           unfolding valueMapAt inside
           tested = run-room _ _ _ _ h ∙ run-number _ _ _ _ ∙ rw (sym es) (behind _ ∙ run-holds _ _ _ _ (le-leb _ _ f))
 
-          pub value-named : mapRead (run (valueMapAt (until e) at) s) ≡ namedMap at size string count (run (nameAt VMAP-map-string string) s)
+          pub value-named : mapRead (run (valueMapAt (until e) at) s) ≡ namedMap at size string count (run (nameAt blob-end VMAP-map-string string) s)
           unfolding run then
-          value-named = ap mapRead (tested ∙ run-entries _ count (at + 16) s ∙ run-bind (nameAt VMAP-map-string string) _ s) ∙ go (run (nameAt VMAP-map-string string) s)
+          value-named = ap mapRead (tested ∙ run-entries _ count (at + 16) s ∙ run-bind (nameAt blob-end VMAP-map-string string) _ s) ∙ go (run (nameAt blob-end VMAP-map-string string) s)
             where
               go : (o : Outcome Name) → mapRead (then o (λ name. done (record { map = valueMap at size string count name; entries = values (run (entries count (at + 16)) s) })))
                   ≡ namedMap at size string count o
