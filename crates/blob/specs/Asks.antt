@@ -12,8 +12,7 @@ use borrow.Author.Tests.{leb-true}
 use Rattle.blob.specs.Le.{le}
 use Rattle.blob.specs.Laid.{flat}
 use Rattle.blob.specs.Places.{Each, span, rows}
-use Rattle.blob.specs.declared.Refusal.{Refusal}
-use Rattle.blob.specs.Reading.{Reading, got, stop, room, byte, Outcome, done, refused, choose, demand, run, places, _>>=_, number, many, each, then}
+use Rattle.blob.specs.Reading.{Fault, Reading, got, stop, room, byte, Outcome, done, refused, choose, demand, run, places, _>>=_, number, many, each, then}
 use Rattle.blob.specs.Laws.{never, same, run-bind, finds-number}
 
 -- where the reading is accepted, its value and the places that it asks for are as P says
@@ -25,15 +24,15 @@ module _ {A : Type 0} {s : List ℕ} {P : A → List ℕ → Type 0} where
   unfolding run places
   finds-got {a} h = record { found = λ b e. subst (λ x. P x []) (same a b e) h }
 
-  pub finds-stop : {r : ℕ → Refusal} → Finds (stop r) s P
+  pub finds-stop : {r : Fault} → Finds (stop r) s P
   unfolding run
   finds-stop = record { found = λ b e. absurd (never _ _ e) }
 
-  pub finds-room : {e : ℕ} {r : ℕ → Refusal} {k : Reading A} → (e ≤ length s → Finds k s P) → Finds (room e r k) s P
+  pub finds-room : {e : ℕ} {r : Fault} {k : Reading A} → (e ≤ length s → Finds k s P) → Finds (room e r k) s P
   unfolding run places
   finds-room {e} {r} {k} h = record { found = λ b. go b (leb e (length s)) refl }
     where
-      go : (b : A) (t : Bool) → leb e (length s) ≡ t → choose t (run k s) (refused (r (length s))) ≡ done b → P b (choose t (places k s) [])
+      go : (b : A) (t : Bool) → leb e (length s) ≡ t → choose t (run k s) (refused (r .told (length s))) ≡ done b → P b (choose t (places k s) [])
       go b true eq d = h (leb-true e (length s) eq) .found b d
       go b false eq d = absurd (never _ _ d)
 
@@ -41,7 +40,7 @@ module _ {A : Type 0} {s : List ℕ} {P : A → List ℕ → Type 0} where
   finds-choose true h g = h refl
   finds-choose false h g = g refl
 
-  pub finds-demand : (t : Bool) (r : ℕ → Refusal) {k : Reading A} → (t ≡ true → Finds k s P) → Finds (demand t r k) s P
+  pub finds-demand : (t : Bool) (r : Fault) {k : Reading A} → (t ≡ true → Finds k s P) → Finds (demand t r k) s P
   unfolding demand
   finds-demand t r h = finds-choose t h (λ e. finds-stop)
 
@@ -60,7 +59,7 @@ places-bind (stop r) f s = refl
 places-bind (room e r k) f s = go (leb e (length s)) (places-bind k f s)
   where
     go : (t : Bool) → places (k >>= f) s ≡ places k s ++ after (run k s) (λ a. places (f a) s)
-        → choose t (places (k >>= f) s) [] ≡ choose t (places k s) [] ++ after (choose t (run k s) (refused (r (length s)))) (λ a. places (f a) s)
+        → choose t (places (k >>= f) s) [] ≡ choose t (places k s) [] ++ after (choose t (run k s) (refused (r .told (length s)))) (λ a. places (f a) s)
     go true ih = ih
     go false ih = refl
 places-bind (byte p k) f s = ap (λ (l : List ℕ). p ∷ l) (places-bind (k (getD s p 0)) f s)

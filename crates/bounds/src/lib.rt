@@ -13,7 +13,7 @@ use format::EndRead;
 
 // So many bytes are needed from a place on, before an end.
 pub fn truncated(end: usize, field: u8, at: usize, needed: usize) -> Refusal
-    ensures { λ r. ⌜ r ≡ refuse.truncated field at needed end ⌝ }
+    ensures { λ r. ⌜ r ≡ refuse.truncated field at needed .told end ⌝ }
 {
     Refusal {
         code: 1,
@@ -26,7 +26,7 @@ pub fn truncated(end: usize, field: u8, at: usize, needed: usize) -> Refusal
 
 // A structure starts with another signature.
 pub fn wrong_signature(at: usize, expected: u32, found: u32) -> Refusal
-    ensures { λ r. ⌜ r ≡ refuse.wrong-signature at expected found 0 ⌝ }
+    ensures { λ r. ⌜ r ≡ refuse.wrong-signature at expected found .told 0 ⌝ }
 {
     Refusal {
         code: 2,
@@ -39,7 +39,7 @@ pub fn wrong_signature(at: usize, expected: u32, found: u32) -> Refusal
 
 // A size is too small, or runs past the blob.
 pub fn size_out(field: u8, at: usize, size: u32) -> Refusal
-    ensures { λ r. ⌜ r ≡ refuse.size-out field at size 0 ⌝ }
+    ensures { λ r. ⌜ r ≡ refuse.size-out field at size .told 0 ⌝ }
 {
     Refusal {
         code: 3,
@@ -52,7 +52,7 @@ pub fn size_out(field: u8, at: usize, size: u32) -> Refusal
 
 // A count is refused.
 pub fn count_out(field: u8, at: usize, count: u32) -> Refusal
-    ensures { λ r. ⌜ r ≡ refuse.count-out field at count 0 ⌝ }
+    ensures { λ r. ⌜ r ≡ refuse.count-out field at count .told 0 ⌝ }
 {
     Refusal {
         code: 4,
@@ -65,7 +65,7 @@ pub fn count_out(field: u8, at: usize, count: u32) -> Refusal
 
 // A place is past an end.
 pub fn offset_out(end: usize, field: u8, at: usize) -> Refusal
-    ensures { λ r. ⌜ r ≡ refuse.offset-out field at end ⌝ }
+    ensures { λ r. ⌜ r ≡ refuse.offset-out field at .told end ⌝ }
 {
     Refusal {
         code: 5,
@@ -78,7 +78,7 @@ pub fn offset_out(end: usize, field: u8, at: usize) -> Refusal
 
 // A name is no UTF-16.
 pub fn not_utf16(field: u8, at: usize) -> Refusal
-    ensures { λ r. ⌜ r ≡ refuse.not-utf16 field at 0 ⌝ }
+    ensures { λ r. ⌜ r ≡ refuse.not-utf16 field at .told 0 ⌝ }
 {
     Refusal {
         code: 6,

@@ -13,8 +13,7 @@ use lib.Dec.{leb, eqb}
 use borrow.Author.Tests.{leb-true, eqb-true}
 use Rattle.blob.specs.Le.{le}
 use Rattle.blob.specs.Places.{Each, span, rows}
-use Rattle.blob.specs.declared.Refusal.{Refusal}
-use Rattle.blob.specs.Reading.{Reading, got, done, choose, run, places, _>>=_, number, many}
+use Rattle.blob.specs.Reading.{Fault, Reading, got, done, choose, run, places, _>>=_, number, many}
 use Rattle.blob.specs.Laws.{then-done, same}
 use Rattle.blob.specs.Asks.{Finds, finds-got, finds-stop, finds-room, finds-choose, finds-demand, finds-bind, finds-so, finds-fixed, finds-number-asked, finds-next, finds-many, finds-each, Asked, asked-none, asked-append, asked-last, asked-span, asked-join, span-append, span-join, inside-span, inside-append}
 use Rattle.format.specs.Name.{text, sized, nameAt, absent, high}
@@ -84,7 +83,7 @@ module _ (s : List ℕ) where
   Ends blob-end = Unit {0}
   Ends (until e) = e ≤ length s
 
-  finds-inside : {A : Type 0} {P : A → List ℕ → Type 0} (r : Region) (p : ℕ) (x : ℕ → Refusal) {k : Reading A} → Ends r → (p ≤ length s → Finds k s P) → Finds (inside r p x k) s P
+  finds-inside : {A : Type 0} {P : A → List ℕ → Type 0} (r : Region) (p : ℕ) (x : Fault) {k : Reading A} → Ends r → (p ≤ length s → Finds k s P) → Finds (inside r p x k) s P
   unfolding inside
   finds-inside blob-end p x h g = finds-room g
   finds-inside (until e) p x h g = finds-demand (leb p e) _ (λ t. g (omega (arith, leb-true p e t)))

@@ -6,7 +6,7 @@ use mathlib.Core.Bool.{Bool, true, false}
 use lib.ListN.{length}
 use lib.Dec.{leb, eqb}
 use Rattle.blob.specs.declared.Refusal.{Refusal}
-use Rattle.blob.specs.Reading.{Reading, got, refused, choose, run, _>>=_}
+use Rattle.blob.specs.Reading.{Fault, Reading, got, refused, choose, run, _>>=_}
 use Rattle.blob.specs.Laws.{run-after, run-stopped, run-number, run-demand}
 use Rattle.format.specs.Region.{Region, blob-end, until, end, inside, endRead}
 use Rattle.format.specs.Name.{absent, sized, nameAt}
@@ -15,8 +15,8 @@ use Rattle.format.specs.Ends.{is-end, no-end}
 use Rattle.format.specs.declared.EndRead.the-variants as read
 
 -- a place is in a region where it is not past the region's end
-pub run-inside : {A : Type 0} (region : Region) (p : ℕ) (r : ℕ → Refusal) (k : Reading A) (s : List ℕ)
-    → run (inside region p r k) s ≡ choose (leb p (end (length s) region)) (run k s) (refused (r (end (length s) region)))
+pub run-inside : {A : Type 0} (region : Region) (p : ℕ) (r : Fault) (k : Reading A) (s : List ℕ)
+    → run (inside region p r k) s ≡ choose (leb p (end (length s) region)) (run k s) (refused (r .told (end (length s) region)))
 unfolding run inside
 run-inside blob-end p r k s = refl
 run-inside (until e) p r k s = run-demand (leb p e) _ k s

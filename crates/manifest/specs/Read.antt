@@ -112,7 +112,7 @@ pub sized : (s : List ℕ) (h : CrimHeader) → run header s ≡ done h → Size
 sized s h e = header-sized s .found h e
 
 module _ (h : CrimHeader) (s : List ℕ) where
-  pub array-cut : length s < 16 + 20 * h .count → run (providersOf h) s ≡ refused (truncated CRIM-provider-descriptor-array 16 (20 * h .count) (length s))
+  pub array-cut : length s < 16 + 20 * h .count → run (providersOf h) s ≡ refused (truncated CRIM-provider-descriptor-array 16 (20 * h .count) .told (length s))
   unfolding providersOf
   array-cut g = run-past _ _ _ _ g
 

@@ -11,7 +11,7 @@ use borrow.Author.Tests.{le-leb, lt-leb, leb-true, eq-eqb, ne-eqb}
 use Rattle.blob.specs.declared.Refusal.{Refusal}
 use Rattle.blob.specs.declared.Verdict.the-variants as verdicts
 use Rattle.blob.specs.Le.{le}
-use Rattle.blob.specs.Reading.{Reading, got, Outcome, done, refused, choose, demand, run, then, _>>=_, number, many, verdict, values}
+use Rattle.blob.specs.Reading.{Fault, Reading, got, Outcome, done, refused, choose, demand, run, then, _>>=_, number, many, verdict, values}
 use Rattle.blob.specs.Laws.{fine-done, run-bind, run-number, run-room, run-past, run-holds, run-fails, many-more}
 use Rattle.blob.specs.Asks.{Finds, finds-got, finds-room, finds-choose, finds-demand, finds-bind, finds-next}
 use Rattle.format.specs.Field.{MAPS-map-offset, MAPS-map-signature, VMAP-size-field, VMAP-header, VMAP-size, VMAP-entries-array, VMAP-map-string}
@@ -82,12 +82,12 @@ pub refuses : (o : Outcome Mapped) (x y : Refusal) → x ≡ y → o ≡ refused
 refuses o x y p q = ap read.Refused p ∙ sym (ap mapRead q)
 
 -- of two tests with one refusal the second fails where the first holds
-either-fails : {A : Type 0} (t u : Bool) (r : ℕ → Refusal) (k : Reading A) (s : List ℕ) → (t ≡ true → u ≡ false) → run (demand t r (demand u r k)) s ≡ refused (r (length s))
+either-fails : {A : Type 0} (t u : Bool) (r : Fault) (k : Reading A) (s : List ℕ) → (t ≡ true → u ≡ false) → run (demand t r (demand u r k)) s ≡ refused (r .told (length s))
 either-fails false u r k s h = run-fails _ _ _ _ refl
 either-fails true u r k s h = run-holds _ _ _ _ refl ∙ run-fails _ _ _ _ (h refl)
 
 module _ (e at : ℕ) (s : List ℕ) where
-  pub value-cut : length s < at + 8 → run (valueMapAt (until e) at) s ≡ refused (truncated VMAP-size-field at 8 (length s))
+  pub value-cut : length s < at + 8 → run (valueMapAt (until e) at) s ≡ refused (truncated VMAP-size-field at 8 .told (length s))
   unfolding valueMapAt
   value-cut h = run-past _ _ _ _ h
 
@@ -101,7 +101,7 @@ module _ (e at : ℕ) (s : List ℕ) where
         ∙ rw (sym es, q) (either-fails (leb 16 size) (leb (at + 16) e) _ _ s (λ p. lt-leb (at + 16) e (omega (arith, leb-true 16 size p))))
 
     module _ (l : 16 ≤ size) (w : at + 16 ≤ e) where
-      pub value-past : e < at + size → run (valueMapAt (until e) at) s ≡ refused (size-out VMAP-size at size 0)
+      pub value-past : e < at + size → run (valueMapAt (until e) at) s ≡ refused (size-out VMAP-size at size .told 0)
       unfolding valueMapAt inside
       value-past g =
           run-room _ _ _ _ h
@@ -120,7 +120,7 @@ module _ (e at : ℕ) (s : List ℕ) where
             ∙ run-number _ _ _ _
             ∙ rw (eo, ec)
 
-        pub value-over : size < 16 + 8 * count → run (valueMapAt (until e) at) s ≡ refused (size-out VMAP-entries-array at size 0)
+        pub value-over : size < 16 + 8 * count → run (valueMapAt (until e) at) s ≡ refused (size-out VMAP-entries-array at size .told 0)
         unfolding valueMapAt inside
         value-over f = run-room _ _ _ _ h ∙ run-number _ _ _ _ ∙ rw (sym es) (behind _ ∙ run-fails _ _ _ _ (lt-leb _ _ f))
 
@@ -138,11 +138,11 @@ module _ (e at : ℕ) (s : List ℕ) where
               go (done name) = refl
               go (refused r) = refl
 
-  pub map-past : length s < at → run (mapAt (until e) at) s ≡ refused (offset-out MAPS-map-offset at (length s))
+  pub map-past : length s < at → run (mapAt (until e) at) s ≡ refused (offset-out MAPS-map-offset at .told (length s))
   unfolding mapAt
   map-past h = run-past _ _ _ _ h
 
-  pub map-cut : at ≤ length s → length s < at + 4 → run (mapAt (until e) at) s ≡ refused (truncated MAPS-map-signature at 4 (length s))
+  pub map-cut : at ≤ length s → length s < at + 4 → run (mapAt (until e) at) s ≡ refused (truncated MAPS-map-signature at 4 .told (length s))
   unfolding mapAt
   map-cut h g = run-room _ _ _ _ h ∙ run-past _ _ _ _ g
 

@@ -31,11 +31,11 @@ module _ (e f o : ℕ) (s : List ℕ) (h : 0 < o) where
   refuses x y a g = answer-refused read.Name read.Refused _ x y a (named e f o s h ∙ g)
 
 module _ (e f o : ℕ) (s : List ℕ) where
-  pub sized-past : e < o → run (sized (until e) f o) s ≡ refused (offset-out f o e)
+  pub sized-past : e < o → run (sized (until e) f o) s ≡ refused (offset-out f o .told e)
   unfolding sized inside
   sized-past h = run-fails _ _ _ _ (lt-leb _ _ h)
 
-  pub sized-cut : o ≤ e → e < o + 4 → run (sized (until e) f o) s ≡ refused (truncated f o 4 e)
+  pub sized-cut : o ≤ e → e < o + 4 → run (sized (until e) f o) s ≡ refused (truncated f o 4 .told e)
   unfolding sized inside
   sized-cut h g = run-holds _ _ _ _ (le-leb _ _ h) ∙ run-fails _ _ _ _ (lt-leb _ _ g)
 
@@ -48,16 +48,16 @@ module _ (e f o : ℕ) (s : List ℕ) where
     unfolding sized inside
     behind = run-holds _ _ _ _ (le-leb o e (omega arith)) ∙ run-holds _ _ _ _ (le-leb _ _ h) ∙ run-number _ _ _ _ ∙ rw z
 
-    pub sized-small : size < 4 → run (sized (until e) f o) s ≡ refused (size-out f o size 0)
+    pub sized-small : size < 4 → run (sized (until e) f o) s ≡ refused (size-out f o size .told 0)
     sized-small g = behind ∙ run-fails _ _ _ _ (lt-leb _ _ g)
 
     module _ (g : 4 ≤ size) where
-      pub sized-short : e < o + size → run (sized (until e) f o) s ≡ refused (truncated f o size e)
+      pub sized-short : e < o + size → run (sized (until e) f o) s ≡ refused (truncated f o size .told e)
       unfolding inside
       sized-short w = behind ∙ run-holds _ _ _ _ (le-leb _ _ g) ∙ run-fails _ _ _ _ (lt-leb _ _ w)
 
       module _ (w : o + size ≤ e) where
-        pub sized-odd : (size % 2 ≡ 0 → ⊥) → run (sized (until e) f o) s ≡ refused (not-utf16 f o 0)
+        pub sized-odd : (size % 2 ≡ 0 → ⊥) → run (sized (until e) f o) s ≡ refused (not-utf16 f o .told 0)
         unfolding inside
         sized-odd t = behind ∙ run-holds _ _ _ _ (le-leb _ _ g) ∙ run-holds _ _ _ _ (le-leb _ _ w) ∙ run-fails _ _ _ _ (ne-eqb _ _ t)
 

@@ -36,11 +36,11 @@ pub record-bytes : (k : ℕ) → k ≤ 8 → stride k ≤ 48
 record-bytes k g = each-getD (λ n. n ≤ 48) (0 ∷ 16 ∷ 48 ∷ 16 ∷ 12 ∷ 0 ∷ 12 ∷ 28 ∷ 0 ∷ []) (omega arith) k (omega arith)
 
 module _ (k at : ℕ) (s : List ℕ) where
-  pub header-past : length s < at → run (headerAt k at) s ≡ refused (offset-out (table-offset k) at (length s))
+  pub header-past : length s < at → run (headerAt k at) s ≡ refused (offset-out (table-offset k) at .told (length s))
   unfolding headerAt
   header-past h = rw run-past
 
-  pub header-short : at ≤ length s → length s < at + header-length k → run (headerAt k at) s ≡ refused (truncated (table-header k) at (header-length k) (length s))
+  pub header-short : at ≤ length s → length s < at + header-length k → run (headerAt k at) s ≡ refused (truncated (table-header k) at (header-length k) .told (length s))
   unfolding headerAt
   header-short h g = rw (run-room, run-past)
 
@@ -48,7 +48,7 @@ module _ (k at : ℕ) (s : List ℕ) where
     here : at ≤ length s
     here = omega arith
 
-    pub header-other : (le 4 s at ≡ signature k → ⊥) → run (headerAt k at) s ≡ refused (wrong-signature at (signature k) (le 4 s at) 0)
+    pub header-other : (le 4 s at ≡ signature k → ⊥) → run (headerAt k at) s ≡ refused (wrong-signature at (signature k) (le 4 s at) .told 0)
     unfolding headerAt
     header-other g = let i = here in let e = ne-eqb _ _ g in rw (run-room, run-room, run-number, run-fails _ _ _ _ e)
 
@@ -68,7 +68,7 @@ module _ (k at : ℕ) (h : Header) (s : List ℕ) where
   abbrev bytes : ℕ
   bytes = stride k * h .count
 
-  pub end-cut : h .size ≡ 0 → length s < start + bytes → run (tableEnd k at h) s ≡ refused (truncated (table-array k) start bytes (length s))
+  pub end-cut : h .size ≡ 0 → length s < start + bytes → run (tableEnd k at h) s ≡ refused (truncated (table-array k) start bytes .told (length s))
   unfolding tableEnd
   end-cut z g = rw (z, run-past)
 
@@ -96,7 +96,7 @@ module _ (k at : ℕ) (h : Header) (s : List ℕ) where
     end-unbounded r g = rw (ne-eqb _ _ z) (run-stopped _ _ s r (rw (ef, el) at g))
 
     module _ (e : ℕ) (g : run (bounded f at (h .size) least) s ≡ done e) where
-      pub end-past : e < start + bytes → run (tableEnd k at h) s ≡ refused (size-out (table-array k) at (h .size) 0)
+      pub end-past : e < start + bytes → run (tableEnd k at h) s ≡ refused (size-out (table-array k) at (h .size) .told 0)
       unfolding tableEnd
       end-past l = rw (ne-eqb _ _ z, run-after _ _ s e (rw (ef, el) at g)) (run-fails _ _ _ _ (lt-leb _ _ l))
 
