@@ -13,7 +13,7 @@ use Rattle.blob.specs.declared.Verdict.the-variants as verdicts
 use Rattle.blob.specs.Le.{le}
 use Rattle.blob.specs.Reading.{Fault, Reading, got, Outcome, done, refused, choose, demand, run, then, _>>=_, number, many, verdict, values}
 use Rattle.blob.specs.Laws.{fine-done, run-bind, run-number, run-room, run-past, run-holds, run-fails, many-more}
-use Rattle.blob.specs.Asks.{Finds, finds-got, finds-room, finds-choose, finds-demand, finds-bind, finds-next}
+use Rattle.blob.specs.Finds.{Finds, finds-got, finds-room, finds-choose, finds-demand, finds-bind, finds-next}
 use Rattle.format.specs.Field.{MAPS-map-offset, MAPS-map-signature, VMAP-size-field, VMAP-header, VMAP-size, VMAP-entries-array, VMAP-map-string}
 use Rattle.format.specs.Refuse.{truncated, size-out, offset-out}
 use Rattle.format.specs.Region.{blob-end, until, against, inside}
@@ -163,13 +163,13 @@ pub record Told (s : List ℕ) (m : Mapped) : Type 0 where
   pub entries : m .entries ≡ values (run (entries (m .map .count) (m .map .offset + 16)) s)
   pub inside : 8 * m .map .count ≤ length s - (m .map .offset + 16)
 
-pub map-told : (e at : ℕ) (s : List ℕ) → e ≤ length s → Finds (mapAt (until e) at) s (λ m ps. Told s m)
+pub map-told : (e at : ℕ) (s : List ℕ) → e ≤ length s → Finds (mapAt (until e) at) s (λ m. Told s m)
 unfolding mapAt valueMapAt inside run many
 map-told e at s h =
     finds-room (λ a. finds-room (λ b. finds-next 4 at (λ signature es. finds-choose (eqb signature VMAP)
     (λ v. finds-room (λ c. finds-next 4 (at + 4) (λ size ez. finds-demand _ _ (λ l. finds-demand _ _ (λ w. finds-demand _ _ (λ g.
     finds-next 4 (at + 8) (λ o eo. finds-next 4 (at + 12) (λ n en. finds-demand _ _ (λ f.
-    finds-bind (λ es ps. es ≡ values (run (entries n (at + 16)) s)) (record { found = λ es q. sym (ap values q) }) (λ es ps q.
-    finds-bind (λ m ps. Unit {0}) (record { found = λ m q. tt }) (λ m qs q'.
+    finds-bind (λ es. es ≡ values (run (entries n (at + 16)) s)) (record { found = λ es q. sym (ap values q) }) (λ es q.
+    finds-bind (λ m. Unit {0}) (record { found = λ m q. tt }) (λ m q'.
     finds-got (record { entries = q; inside = omega (arith, leb-true (at + size) e g, leb-true (16 + 8 * n) size f) }))))))))))))
     (λ v. finds-got (record { entries = refl; inside = omega arith })))))

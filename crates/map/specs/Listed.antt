@@ -12,7 +12,7 @@ use Rattle.blob.specs.declared.Verdict.the-variants as verdicts
 use Rattle.blob.specs.Le.{le}
 use Rattle.blob.specs.Reading.{Reading, got, room, Outcome, done, refused, choose, run, then, _>>=_, number, many, verdict}
 use Rattle.blob.specs.Laws.{not-fine, run-bind, run-number, run-room, run-past, bind-same, many-same}
-use Rattle.blob.specs.Asks.{Finds, finds-choose, finds-next}
+use Rattle.blob.specs.Finds.{Finds, finds-choose, finds-next}
 use Rattle.format.specs.Refuse.{size-out}
 use Rattle.format.specs.Region.{Region, until, end, regionAt, endRead}
 use Rattle.format.specs.Ends.{is-end, no-end}
@@ -41,7 +41,7 @@ module _ (e start first place : ℕ) (s : List ℕ) where
   unfolding listedAt
   listed-word word h w = rw (ne-eqb _ _ h, w) (run-number _ _ _ _)
 
-  listed-finds : e ≤ length s → Finds (listedAt e start first place) s (λ m ps. Told s m)
+  listed-finds : e ≤ length s → Finds (listedAt e start first place) s (λ m. Told s m)
   unfolding listedAt
   listed-finds h = finds-choose (eqb place start) (λ t. map-told e first s h) (λ t. finds-next 4 place (λ word w. map-told e word s h))
 

@@ -11,7 +11,7 @@ use Rattle.blob.specs.Le.{le}
 use Rattle.blob.specs.Places.{Each}
 use Rattle.blob.specs.Reading.{done, refused, run}
 use Rattle.blob.specs.Laws.{run-number, run-room, run-past, run-holds, run-fails, run-after, run-stopped}
-use Rattle.blob.specs.Asks.{Finds, finds-got, finds-room, finds-choose, finds-demand, finds-bind}
+use Rattle.blob.specs.Finds.{Finds, finds-got, finds-room, finds-choose, finds-demand, finds-bind}
 use Rattle.format.specs.Field.{table-offset, table-header, table-size, table-array}
 use Rattle.format.specs.Refuse.{offset-out, truncated, wrong-signature, size-out}
 use Rattle.format.specs.Region.{bounded}
@@ -76,11 +76,11 @@ module _ (k at : ℕ) (h : Header) (s : List ℕ) where
   unfolding tableEnd run
   end-by-count z g = rw (z, run-room)
 
-  end-bounded : Finds (tableEnd k at h) s (λ e ps. (start + bytes ≤ e) × (e ≤ length s))
+  end-bounded : Finds (tableEnd k at h) s (λ e. (start + bytes ≤ e) × (e ≤ length s))
   unfolding tableEnd bounded
   end-bounded =
       finds-choose (eqb (h .size) 0) (λ z. finds-room (λ w. finds-got (omega arith, w))) (λ z.
-      finds-bind (λ e ps. e ≤ length s) (finds-demand _ _ (λ d. finds-room (λ w. finds-got w))) (λ e ps w.
+      finds-bind (λ e. e ≤ length s) (finds-demand _ _ (λ d. finds-room (λ w. finds-got w))) (λ e w.
       finds-demand _ _ (λ d. finds-got (leb-true _ _ d, w))))
 
   -- a table that ends has its records before its end, and ends in the blob
