@@ -1,4 +1,4 @@
--- What an accepted reading finds and which bytes it asks for, worked out by one rule for each form of a reading.
+-- Which bytes a reading asks for, and what it finds where it is accepted, worked out by one rule for each form of a reading.
 use Prim.{tt}
 use Prim.Native.Nat.{ℕ, zero, suc, _+_, _≤_, _<_}
 use mathlib.Core.Path.{_≡_, refl, ap, ap₂, sym, _∙_, subst}
@@ -12,41 +12,55 @@ use borrow.Author.Tests.{leb-true}
 use Rattle.blob.specs.Le.{le}
 use Rattle.blob.specs.Laid.{flat}
 use Rattle.blob.specs.Places.{Each, span, rows}
-use Rattle.blob.specs.declared.Refusal.{Refusal}
-use Rattle.blob.specs.Reading.{Reading, got, stop, room, byte, Outcome, done, refused, choose, demand, run, places, _>>=_, number, many, each, then}
+use Rattle.blob.specs.Reading.{Fault, Reading, got, stop, room, byte, Outcome, done, refused, choose, demand, run, places, _>>=_, number, many, each, then}
 use Rattle.blob.specs.Laws.{never, same, run-bind, finds-number}
 
--- where the reading is accepted, its value and the places that it asks for are as P says
-pub record Finds {A : Type 0} (r : Reading A) (s : List ℕ) (P : A → List ℕ → Type 0) : Type 0 where
+-- where the reading is accepted, its value and the places that it asks for are as P says; accepted or refused, each of these places
+-- lies in the blob
+pub record Asks {A : Type 0} (r : Reading A) (s : List ℕ) (P : A → List ℕ → Type 0) : Type 0 where
   pub found : (a : A) → run r s ≡ done a → P a (places r s)
+  pub inside : Each (λ p. p < length s) (places r s)
+
+pub inside-append : (n : ℕ) (ps qs : List ℕ) → Each (λ p. p < n) ps → Each (λ p. p < n) qs → Each (λ p. p < n) (ps ++ qs)
+inside-append n [] qs h g = g
+inside-append n (p ∷ ps) qs h g = (h .0, inside-append n ps qs (h .1) g)
+
+pub inside-span : (n at w : ℕ) → at + w ≤ n → Each (λ p. p < n) (span at w)
+unfolding span
+inside-span n at zero h = tt
+inside-span n at (suc w) h = (omega arith, inside-span n (at + 1) w (omega arith))
 
 module _ {A : Type 0} {s : List ℕ} {P : A → List ℕ → Type 0} where
-  pub finds-got : {a : A} → P a [] → Finds (got a) s P
+  pub asks-got : {a : A} → P a [] → Asks (got a) s P
   unfolding run places
-  finds-got {a} h = record { found = λ b e. subst (λ x. P x []) (same a b e) h }
+  asks-got {a} h = record { found = λ b e. subst (λ x. P x []) (same a b e) h; inside = tt }
 
-  pub finds-stop : {r : ℕ → Refusal} → Finds (stop r) s P
-  unfolding run
-  finds-stop = record { found = λ b e. absurd (never _ _ e) }
-
-  pub finds-room : {e : ℕ} {r : ℕ → Refusal} {k : Reading A} → (e ≤ length s → Finds k s P) → Finds (room e r k) s P
+  pub asks-stop : {r : Fault} → Asks (stop r) s P
   unfolding run places
-  finds-room {e} {r} {k} h = record { found = λ b. go b (leb e (length s)) refl }
+  asks-stop = record { found = λ b e. absurd (never _ _ e); inside = tt }
+
+  pub asks-room : {e : ℕ} {r : Fault} {k : Reading A} → (e ≤ length s → Asks k s P) → Asks (room e r k) s P
+  unfolding run places
+  asks-room {e} {r} {k} h = record { found = λ b. go b (leb e (length s)) refl; inside = within (leb e (length s)) refl }
     where
-      go : (b : A) (t : Bool) → leb e (length s) ≡ t → choose t (run k s) (refused (r (length s))) ≡ done b → P b (choose t (places k s) [])
+      go : (b : A) (t : Bool) → leb e (length s) ≡ t → choose t (run k s) (refused (r .told (length s))) ≡ done b → P b (choose t (places k s) [])
       go b true eq d = h (leb-true e (length s) eq) .found b d
       go b false eq d = absurd (never _ _ d)
 
-  pub finds-choose : (t : Bool) {k l : Reading A} → (t ≡ true → Finds k s P) → (t ≡ false → Finds l s P) → Finds (choose t k l) s P
-  finds-choose true h g = h refl
-  finds-choose false h g = g refl
+      within : (t : Bool) → leb e (length s) ≡ t → Each (λ p. p < length s) (choose t (places k s) [])
+      within true eq = h (leb-true e (length s) eq) .inside
+      within false eq = tt
 
-  pub finds-demand : (t : Bool) (r : ℕ → Refusal) {k : Reading A} → (t ≡ true → Finds k s P) → Finds (demand t r k) s P
+  pub asks-choose : (t : Bool) {k l : Reading A} → (t ≡ true → Asks k s P) → (t ≡ false → Asks l s P) → Asks (choose t k l) s P
+  asks-choose true h g = h refl
+  asks-choose false h g = g refl
+
+  pub asks-demand : (t : Bool) (r : Fault) {k : Reading A} → (t ≡ true → Asks k s P) → Asks (demand t r k) s P
   unfolding demand
-  finds-demand t r h = finds-choose t h (λ e. finds-stop)
+  asks-demand t r h = asks-choose t h (λ e. asks-stop)
 
-  pub finds-so : {Q : A → List ℕ → Type 0} {r : Reading A} → Finds r s Q → ((a : A) (ps : List ℕ) → Q a ps → P a ps) → Finds r s P
-  finds-so h g = record { found = λ a e. g a _ (h .found a e) }
+  pub asks-so : {Q : A → List ℕ → Type 0} {r : Reading A} → Asks r s Q → ((a : A) (ps : List ℕ) → Q a ps → P a ps) → Asks r s P
+  asks-so h g = record { found = λ a e. g a _ (h .found a e); inside = h .inside }
 
 -- what follows an accepted outcome
 after : {A : Type 0} → Outcome A → (A → List ℕ) → List ℕ
@@ -60,20 +74,25 @@ places-bind (stop r) f s = refl
 places-bind (room e r k) f s = go (leb e (length s)) (places-bind k f s)
   where
     go : (t : Bool) → places (k >>= f) s ≡ places k s ++ after (run k s) (λ a. places (f a) s)
-        → choose t (places (k >>= f) s) [] ≡ choose t (places k s) [] ++ after (choose t (run k s) (refused (r (length s)))) (λ a. places (f a) s)
+        → choose t (places (k >>= f) s) [] ≡ choose t (places k s) [] ++ after (choose t (run k s) (refused (r .told (length s)))) (λ a. places (f a) s)
     go true ih = ih
     go false ih = refl
 places-bind (byte p k) f s = ap (λ (l : List ℕ). p ∷ l) (places-bind (k (getD s p 0)) f s)
 
-pub finds-bind : {A B : Type 0} {s : List ℕ} (Q : A → List ℕ → Type 0) {P : B → List ℕ → Type 0} {p : Reading A} {f : A → Reading B}
-    → Finds p s Q → ((a : A) (ps : List ℕ) → Q a ps → Finds (f a) s (λ b qs. P b (ps ++ qs))) → Finds (p >>= f) s P
+pub asks-bind : {A B : Type 0} {s : List ℕ} (Q : A → List ℕ → Type 0) {P : B → List ℕ → Type 0} {p : Reading A} {f : A → Reading B}
+    → Asks p s Q → ((a : A) (ps : List ℕ) → Q a ps → Asks (f a) s (λ b qs. P b (ps ++ qs))) → Asks (p >>= f) s P
 unfolding after then
-finds-bind {A} {B} {s} Q {P} {p} {f} h g = record { found = λ b e. go b (run p s) refl (sym (run-bind p f s) ∙ e) (places-bind p f s) }
+asks-bind {A} {B} {s} Q {P} {p} {f} h g =
+    record { found = λ b e. go b (run p s) refl (sym (run-bind p f s) ∙ e) (places-bind p f s); inside = rw (places-bind p f s) (inside-append (length s) (places p s) _ (h .inside) (within (run p s) refl)) }
   where
     go : (b : B) (o : Outcome A) → run p s ≡ o → then o (λ a. run (f a) s) ≡ done b
         → places (p >>= f) s ≡ places p s ++ after o (λ a. places (f a) s) → P b (places (p >>= f) s)
     go b (done a) o d l = subst (λ ps. P b ps) (sym l) (g a (places p s) (h .found a o) .found b d)
     go b (refused r) o d l = absurd (never _ _ d)
+
+    within : (o : Outcome A) → run p s ≡ o → Each (λ p. p < length s) (after o (λ a. places (f a) s))
+    within (done a) e = g a (places p s) (h .found a e) .inside
+    within (refused r) e = tt
 
 places-number : (w p : ℕ) (s : List ℕ) → places (number w p) s ≡ span p w
 unfolding places number span after run _>>=_
@@ -81,46 +100,32 @@ places-number zero p s = refl
 places-number (suc w) p s = ap (λ (l : List ℕ). p ∷ l) (places-bind (number w (p + 1)) _ s ∙ simp (finds-number, places-number w (p + 1) s, append-nil))
 
 -- a reading that asks for the same places whatever it finds
-pub finds-fixed : {A B : Type 0} {s : List ℕ} (qs : List ℕ) (R : A → Type 0) {P : B → List ℕ → Type 0} {p : Reading A} {f : A → Reading B}
-    → Finds p s (λ a ps. (qs ≡ ps) × R a) → ((a : A) → R a → Finds (f a) s (λ b rs. P b (qs ++ rs))) → Finds (p >>= f) s P
-finds-fixed {A} {B} {s} qs R {P} {p} {f} h g =
-    finds-bind _ h (λ a ps q. subst (λ l. Finds (f a) s (λ b rs. P b (l ++ rs))) (q .0) (g a (q .1)))
+pub asks-fixed : {A B : Type 0} {s : List ℕ} (qs : List ℕ) (R : A → Type 0) {P : B → List ℕ → Type 0} {p : Reading A} {f : A → Reading B}
+    → Asks p s (λ a ps. (qs ≡ ps) × R a) → ((a : A) → R a → Asks (f a) s (λ b rs. P b (qs ++ rs))) → Asks (p >>= f) s P
+asks-fixed {A} {B} {s} qs R {P} {p} {f} h g =
+    asks-bind _ h (λ a ps q. subst (λ l. Asks (f a) s (λ b rs. P b (l ++ rs))) (q .0) (g a (q .1)))
 
--- one rule for every width
-pub finds-number-asked : {s : List ℕ} (w p : ℕ) → Finds (number w p) s (λ a ps. (span p w ≡ ps) × (a ≡ le w s p))
-finds-number-asked {s} w p = record { found = λ a e. (sym (places-number w p s), same _ _ (sym e ∙ finds-number w p s)) }
+-- one rule for every width; the bytes are there
+pub asks-number : {s : List ℕ} (w p : ℕ) → p + w ≤ length s → Asks (number w p) s (λ a ps. (span p w ≡ ps) × (a ≡ le w s p))
+asks-number {s} w p h =
+    record {
+      found = λ a e. (sym (places-number w p s), same _ _ (sym e ∙ finds-number w p s));
+      inside = rw (places-number w p s) (inside-span (length s) p w h);
+    }
 
-pub finds-next : {B : Type 0} {s : List ℕ} {P : B → List ℕ → Type 0} (w p : ℕ) {f : ℕ → Reading B}
-    → ((a : ℕ) → a ≡ le w s p → Finds (f a) s (λ b qs. P b (span p w ++ qs))) → Finds (number w p >>= f) s P
-finds-next {B} {s} w p h = finds-fixed (span p w) (λ a. a ≡ le w s p) (finds-number-asked w p) h
+pub asks-next : {B : Type 0} {s : List ℕ} {P : B → List ℕ → Type 0} (w p : ℕ) {f : ℕ → Reading B} → p + w ≤ length s
+    → ((a : ℕ) → a ≡ le w s p → Asks (f a) s (λ b qs. P b (span p w ++ qs))) → Asks (number w p >>= f) s P
+asks-next {B} {s} w p h g = asks-fixed (span p w) (λ a. a ≡ le w s p) (asks-number w p h) g
 
--- the places asked for are these, and each lies in the blob
-pub record Asked (s ps qs : List ℕ) : Type 0 where
-  pub equal : ps ≡ qs
-  pub inside : Each (λ p. p < length s) qs
+-- two rows of places, those behind others, and the last of a row, which ends in nothing
+pub asked-append : {ps qs ps' qs' : List ℕ} → ps ≡ qs → ps' ≡ qs' → ps ++ ps' ≡ qs ++ qs'
+asked-append h g = ap₂ (λ (a b : List ℕ). a ++ b) h g
 
-pub inside-append : (n : ℕ) (ps qs : List ℕ) → Each (λ p. p < n) ps → Each (λ p. p < n) qs → Each (λ p. p < n) (ps ++ qs)
-inside-append n [] qs h g = g
-inside-append n (p ∷ ps) qs h g = (h .0, inside-append n ps qs (h .1) g)
+pub asked-behind : (ps : List ℕ) {qs qs' : List ℕ} → qs ≡ qs' → ps ++ qs ≡ ps ++ qs'
+asked-behind ps h = ap (λ (l : List ℕ). ps ++ l) h
 
-pub inside-span : (n at w : ℕ) → at + w ≤ n → Each (λ p. p < n) (span at w)
-unfolding span
-inside-span n at zero h = tt
-inside-span n at (suc w) h = (omega arith, inside-span n (at + 1) w (omega arith))
-
-pub asked-none : {s : List ℕ} → Asked s [] []
-asked-none = record { equal = refl; inside = tt }
-
-pub asked-append : {s ps qs ps' qs' : List ℕ} → Asked s ps qs → Asked s ps' qs' → Asked s (ps ++ ps') (qs ++ qs')
-asked-append {s} {ps} {qs} {ps'} {qs'} h g =
-    record { equal = ap₂ (λ (a b : List ℕ). a ++ b) (h .equal) (g .equal); inside = inside-append (length s) qs qs' (h .inside) (g .inside) }
-
--- the last of a row ends in nothing
-pub asked-last : {s ps qs : List ℕ} → Asked s ps qs → Asked s (ps ++ []) qs
+pub asked-last : {ps qs : List ℕ} → ps ≡ qs → ps ++ [] ≡ qs
 asked-last h = rw append-nil h
-
-pub asked-span : {s : List ℕ} (at w : ℕ) → at + w ≤ length s → Asked s (span at w) (span at w)
-asked-span at w h = record { equal = refl; inside = inside-span _ at w h }
 
 -- two spans in a row are one
 pub span-append : (at n m : ℕ) → span at n ++ span (at + n) m ≡ span at (n + m)
@@ -131,20 +136,17 @@ span-append at (suc n) m = let e : (at + suc n) ≡ (at + 1) + n = omega arith i
 pub span-join : (at n m : ℕ) (xs : List ℕ) → span at n ++ (span (at + n) m ++ xs) ≡ span at (n + m) ++ xs
 span-join at n m xs = sym (append-assoc (span at n) (span (at + n) m) xs) ∙ ap (λ (l : List ℕ). l ++ xs) (span-append at n m)
 
-pub asked-join : {s qs : List ℕ} (at n m : ℕ) → at + n ≤ length s → Asked s qs (span (at + n) m) → Asked s (span at n ++ qs) (span at (n + m))
-asked-join {s} {qs} at n m h g = rw (span-append at n m) at (asked-append (asked-span at n h) g)
-
 -- values one after another, by one rule for every record and every state; I is what the next one may rely on
-pub finds-many : {S A : Type 0} {s : List ℕ} {p : S → Reading A} {next : A → S → S} (I : ℕ → S → Type 0) (q : S → A → List ℕ)
-    → ((n : ℕ) (at : S) → I (suc n) at → Finds (p at) s (λ a ps. Asked s ps (q at a) × I n (next a at)))
-    → (n : ℕ) (at : S) → I n at → Finds (many p next n at) s (λ vs ps. Asked s ps (rows q next at vs) × (length vs ≡ n))
+pub asks-many : {S A : Type 0} {s : List ℕ} {p : S → Reading A} {next : A → S → S} (I : ℕ → S → Type 0) (q : S → A → List ℕ)
+    → ((n : ℕ) (at : S) → I (suc n) at → Asks (p at) s (λ a ps. (ps ≡ q at a) × I n (next a at)))
+    → (n : ℕ) (at : S) → I n at → Asks (many p next n at) s (λ vs ps. (ps ≡ rows q next at vs) × (length vs ≡ n))
 unfolding many rows
-finds-many I q one zero at i = finds-got (asked-none, refl)
-finds-many {S} {A} {s} {p} {next} I q one (suc n) at i =
-    finds-bind _ (one n at i) (λ a ps h. finds-bind _ (finds-many I q one n (next a at) (h .1)) (λ vs qs g. finds-got (asked-append (h .0) (asked-last (g .0)), ap suc (g .1))))
+asks-many I q one zero at i = asks-got (refl, refl)
+asks-many {S} {A} {s} {p} {next} I q one (suc n) at i =
+    asks-bind _ (one n at i) (λ a ps h. asks-bind _ (asks-many I q one n (next a at) (h .1)) (λ vs qs g. asks-got (asked-append (h .0) (asked-last (g .0)), ap suc (g .1))))
 
-pub finds-each : {A B : Type 0} {s : List ℕ} {f : A → Reading B} (q : B → List ℕ)
-    → ((a : A) → Finds (f a) s (λ b ps. Asked s ps (q b))) → (vs : List A) → Finds (each f vs) s (λ bs ps. Asked s ps (flat q bs))
+pub asks-each : {A B : Type 0} {s : List ℕ} {f : A → Reading B} (q : B → List ℕ)
+    → ((a : A) → Asks (f a) s (λ b ps. ps ≡ q b)) → (vs : List A) → Asks (each f vs) s (λ bs ps. ps ≡ flat q bs)
 unfolding each flat
-finds-each q one [] = finds-got asked-none
-finds-each q one (a ∷ vs) = finds-bind _ (one a) (λ b ps h. finds-bind _ (finds-each q one vs) (λ bs qs g. finds-got (asked-append h (asked-last g))))
+asks-each q one [] = asks-got refl
+asks-each q one (a ∷ vs) = asks-bind _ (one a) (λ b ps h. asks-bind _ (asks-each q one vs) (λ bs qs g. asks-got (asked-append h (asked-last g))))

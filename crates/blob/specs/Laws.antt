@@ -12,7 +12,7 @@ use Rattle.blob.specs.Le.{le}
 use Rattle.blob.specs.Laid.{laid, laid-more, flat}
 use Rattle.blob.specs.declared.Refusal.{Refusal}
 use Rattle.blob.specs.declared.Verdict.the-variants as verdicts
-use Rattle.blob.specs.Reading.{Reading, got, stop, room, byte, Outcome, done, refused, choose, demand, run, _>>=_, number, many, each, then, answer, verdict, values}
+use Rattle.blob.specs.Reading.{Fault, Reading, got, stop, room, byte, Outcome, done, refused, choose, demand, run, _>>=_, number, many, each, then, answer, verdict, values}
 
 -- a refusal is never a value, and two values are equal where their outcomes are
 pub never : {A : Type 0} (r : Refusal) (a : A) → _≡_ {A = Outcome A} (refused r) (done a) → ⊥
@@ -56,6 +56,18 @@ pub choose-done : {A : Type 0} (t : Bool) (o : Outcome A) (r : Refusal) (a : A) 
 choose-done true o r a e = (refl, e)
 choose-done false o r a e = absurd (never _ _ e)
 
+-- no refusal has code 0
+pub run-coded : {A : Type 0} (r : Reading A) (s : List ℕ) (q : Refusal) → run r s ≡ refused q → 1 ≤ q .code
+unfolding run
+run-coded (got a) s q e = absurd (never q a (sym e))
+run-coded (stop r) s q e = let c : r .told (length s) .code ≡ q .code = cc in omega (arith, r .coded (length s))
+run-coded (room e r k) s q h = go (leb e (length s)) (run-coded k s q) h
+  where
+    go : (b : Bool) → (run k s ≡ refused q → 1 ≤ q .code) → choose b (run k s) (refused (r .told (length s))) ≡ refused q → 1 ≤ q .code
+    go true ih h = ih h
+    go false ih h = let c : r .told (length s) .code ≡ q .code = cc in omega (arith, r .coded (length s))
+run-coded (byte p k) s q h = run-coded (k (getD s p 0)) s q h
+
 pub run-bind : {A B : Type 0} (p : Reading A) (f : A → Reading B) (s : List ℕ) → run (p >>= f) s ≡ then (run p s) (λ a. run (f a) s)
 unfolding run then _>>=_
 run-bind (got a) f s = refl
@@ -63,7 +75,7 @@ run-bind (stop r) f s = refl
 run-bind (room e r k) f s = go (leb e (length s)) (run-bind k f s)
   where
     go : (b : Bool) → run (k >>= f) s ≡ then (run k s) (λ a. run (f a) s)
-        → choose b (run (k >>= f) s) (refused (r (length s))) ≡ then (choose b (run k s) (refused (r (length s)))) (λ a. run (f a) s)
+        → choose b (run (k >>= f) s) (refused (r .told (length s))) ≡ then (choose b (run k s) (refused (r .told (length s)))) (λ a. run (f a) s)
     go true ih = ih
     go false ih = refl
 run-bind (byte p k) f s = run-bind (k (getD s p 0)) f s
@@ -100,19 +112,19 @@ pub run-got : {A : Type 0} (a : A) (s : List ℕ) → run (got a) s ≡ done a
 unfolding run
 run-got a s = refl
 
-pub run-demand : {A : Type 0} (t : Bool) (r : ℕ → Refusal) (k : Reading A) (s : List ℕ)
-    → run (demand t r k) s ≡ choose t (run k s) (refused (r (length s)))
+pub run-demand : {A : Type 0} (t : Bool) (r : Fault) (k : Reading A) (s : List ℕ)
+    → run (demand t r k) s ≡ choose t (run k s) (refused (r .told (length s)))
 unfolding run demand
 run-demand true r k s = refl
 run-demand false r k s = refl
 
 -- where there is room, and where not; where a test holds, and where not
-module _ {A : Type 0} (r : ℕ → Refusal) (k : Reading A) (s : List ℕ) where
+module _ {A : Type 0} (r : Fault) (k : Reading A) (s : List ℕ) where
   pub run-room : (e : ℕ) → e ≤ length s → run (room e r k) s ≡ run k s
   unfolding run
   run-room e h = rw (le-leb _ _ h)
 
-  pub run-past : (e : ℕ) → length s < e → run (room e r k) s ≡ refused (r (length s))
+  pub run-past : (e : ℕ) → length s < e → run (room e r k) s ≡ refused (r .told (length s))
   unfolding run
   run-past e h = rw (lt-leb _ _ h)
 
@@ -120,16 +132,16 @@ module _ {A : Type 0} (r : ℕ → Refusal) (k : Reading A) (s : List ℕ) where
   unfolding demand
   run-holds t h = rw h
 
-  pub run-fails : (t : Bool) → t ≡ false → run (demand t r k) s ≡ refused (r (length s))
+  pub run-fails : (t : Bool) → t ≡ false → run (demand t r k) s ≡ refused (r .told (length s))
   unfolding run demand
   run-fails t h = rw h
 
 -- what is found behind a test of room goes by what is found where there is room
-pub same-room : {A : Type 0} (e : ℕ) (r : ℕ → Refusal) (k l : Reading A) (s : List ℕ) → (e ≤ length s → run k s ≡ run l s) → run (room e r k) s ≡ run (room e r l) s
+pub same-room : {A : Type 0} (e : ℕ) (r : Fault) (k l : Reading A) (s : List ℕ) → (e ≤ length s → run k s ≡ run l s) → run (room e r k) s ≡ run (room e r l) s
 unfolding run
 same-room e r k l s h = go (leb e (length s)) refl
   where
-    go : (t : Bool) → leb e (length s) ≡ t → choose t (run k s) (refused (r (length s))) ≡ choose t (run l s) (refused (r (length s)))
+    go : (t : Bool) → leb e (length s) ≡ t → choose t (run k s) (refused (r .told (length s))) ≡ choose t (run l s) (refused (r .told (length s)))
     go true g = h (leb-true e (length s) g)
     go false g = refl
 

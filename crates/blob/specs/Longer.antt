@@ -24,7 +24,7 @@ longer (room e x k) s t a le ag h = go (longer k s t a le) (leb e (length s)) re
   where
     go : (Agree s t (places k s) → run k s ≡ done a → run k t ≡ done a)
         → (b : Bool) → leb e (length s) ≡ b → Agree s t (choose b (places k s) [])
-        → choose b (run k s) (refused (x (length s))) ≡ done a → choose (leb e (length t)) (run k t) (refused (x (length t))) ≡ done a
+        → choose b (run k s) (refused (x .told (length s))) ≡ done a → choose (leb e (length t)) (run k t) (refused (x .told (length t))) ≡ done a
     go ih true eq ag h = rw (le-leb e (length t) (omega (arith, leb-true e (length s) eq))) (ih ag h)
     go ih false eq ag h = absurd (never _ _ h)
 longer (byte p k) s t a le ag h = rw (ag .0) (longer (k (getD s p 0)) s t a le (ag .1) h)

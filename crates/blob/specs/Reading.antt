@@ -1,7 +1,7 @@
 -- The language in which the format is defined. A reading asks for room in a blob and for single bytes of it,
 -- and ends with a value or a refusal. It learns the blob's length only by asking for room, and in a refusal:
 -- that is why a longer blob is read the same (Longer).
-use Prim.Native.Nat.{ℕ, zero, suc, _+_, _*_}
+use Prim.Native.Nat.{ℕ, zero, suc, _+_, _*_, _≤_}
 use mathlib.Core.List.{List, [], _∷_}
 use mathlib.Core.Bool.{Bool, true, false}
 use lib.ListN.{length, getD}
@@ -10,13 +10,18 @@ use Rattle.blob.specs.declared.Refusal.{Refusal}
 use Rattle.blob.specs.declared.Verdict.{Verdict}
 use Rattle.blob.specs.declared.Verdict.the-variants as verdicts
 
+-- what a refusal tells, which may name the blob's length. It has a code: 0 is for what is accepted
+pub record Fault : Type 0 where
+  pub told : ℕ → Refusal
+  pub coded : (n : ℕ) → 1 ≤ told n .code
+
 pub data Reading (A : Type 0) : Type 0 where
   -- the value
   got : A → Reading A
-  -- a refusal, which may name the blob's length
-  stop : (ℕ → Refusal) → Reading A
+  -- a refusal
+  stop : Fault → Reading A
   -- go on where the blob has room up to a place, refuse where not
-  room : ℕ → (ℕ → Refusal) → Reading A → Reading A
+  room : ℕ → Fault → Reading A → Reading A
   -- the byte at a place
   byte : ℕ → (ℕ → Reading A) → Reading A
 
@@ -30,7 +35,7 @@ choose true a b = a
 choose false a b = b
 
 -- go on where a test holds, refuse where not
-unfoldable pub demand : {A : Type 0} → Bool → (ℕ → Refusal) → Reading A → Reading A
+unfoldable pub demand : {A : Type 0} → Bool → Fault → Reading A → Reading A
 demand b r k = choose b k (stop r)
 
 infixl 20 _>>=_
@@ -60,8 +65,8 @@ each f (a ∷ vs) = f a >>= λ b. each f vs >>= λ bs. got (b ∷ bs)
 -- what a reading of the blob s finds
 unfoldable pub run : {A : Type 0} → Reading A → List ℕ → Outcome A
 run (got a) s = done a
-run (stop r) s = refused (r (length s))
-run (room e r k) s = choose (leb e (length s)) (run k s) (refused (r (length s)))
+run (stop r) s = refused (r .told (length s))
+run (room e r k) s = choose (leb e (length s)) (run k s) (refused (r .told (length s)))
 run (byte p k) s = run (k (getD s p 0)) s
 
 -- the places of the bytes that it asks for on the way: those that it rests on

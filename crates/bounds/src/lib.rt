@@ -11,22 +11,22 @@ use blob::Refusal;
 use blob::Verdict;
 use format::EndRead;
 
-// So many bytes are needed from a place on.
-pub fn truncated(b: &[u8], field: u8, at: usize, needed: usize) -> Refusal
-    ensures { λ r. ⌜ r ≡ refuse.truncated field at needed (length (now (b .entry))) ⌝ }
+// So many bytes are needed from a place on, before an end.
+pub fn truncated(end: usize, field: u8, at: usize, needed: usize) -> Refusal
+    ensures { λ r. ⌜ r ≡ refuse.truncated field at needed .told end ⌝ }
 {
     Refusal {
         code: 1,
         field,
         place: at as u64,
         first: needed as u64,
-        second: blob::have(b, at),
+        second: blob::have(end, at),
     }
 }
 
 // A structure starts with another signature.
 pub fn wrong_signature(at: usize, expected: u32, found: u32) -> Refusal
-    ensures { λ r. ⌜ r ≡ refuse.wrong-signature at expected found 0 ⌝ }
+    ensures { λ r. ⌜ r ≡ refuse.wrong-signature at expected found .told 0 ⌝ }
 {
     Refusal {
         code: 2,
@@ -39,7 +39,7 @@ pub fn wrong_signature(at: usize, expected: u32, found: u32) -> Refusal
 
 // A size is too small, or runs past the blob.
 pub fn size_out(field: u8, at: usize, size: u32) -> Refusal
-    ensures { λ r. ⌜ r ≡ refuse.size-out field at size 0 ⌝ }
+    ensures { λ r. ⌜ r ≡ refuse.size-out field at size .told 0 ⌝ }
 {
     Refusal {
         code: 3,
@@ -52,7 +52,7 @@ pub fn size_out(field: u8, at: usize, size: u32) -> Refusal
 
 // A count is refused.
 pub fn count_out(field: u8, at: usize, count: u32) -> Refusal
-    ensures { λ r. ⌜ r ≡ refuse.count-out field at count 0 ⌝ }
+    ensures { λ r. ⌜ r ≡ refuse.count-out field at count .told 0 ⌝ }
 {
     Refusal {
         code: 4,
@@ -63,22 +63,22 @@ pub fn count_out(field: u8, at: usize, count: u32) -> Refusal
     }
 }
 
-// A place is past the blob.
-pub fn offset_out(b: &[u8], field: u8, at: usize) -> Refusal
-    ensures { λ r. ⌜ r ≡ refuse.offset-out field at (length (now (b .entry))) ⌝ }
+// A place is past an end.
+pub fn offset_out(end: usize, field: u8, at: usize) -> Refusal
+    ensures { λ r. ⌜ r ≡ refuse.offset-out field at .told end ⌝ }
 {
     Refusal {
         code: 5,
         field,
         place: at as u64,
-        first: b.len() as u64,
+        first: end as u64,
         second: 0,
     }
 }
 
 // A name is no UTF-16.
 pub fn not_utf16(field: u8, at: usize) -> Refusal
-    ensures { λ r. ⌜ r ≡ refuse.not-utf16 field at 0 ⌝ }
+    ensures { λ r. ⌜ r ≡ refuse.not-utf16 field at .told 0 ⌝ }
 {
     Refusal {
         code: 6,
@@ -109,7 +109,7 @@ pub fn whole(b: &[u8], field: u8, at: usize, needed: usize) -> Verdict
     if has_room(b, at, needed) {
         return Verdict::Fine;
     }
-    Verdict::Refused(truncated(b, field, at, needed))
+    Verdict::Refused(truncated(b.len(), field, at, needed))
 }
 
 // Where a structure ends whose size, of at least so many bytes, is not 0.

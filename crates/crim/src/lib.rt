@@ -18,23 +18,23 @@ pub fn header(b: &[u8]) -> CrimRead
     ensures { λ r. ⌜ r ≡ spec.crimRead (run spec.header (now (b .entry))) ⌝ }
 {
     if b.len() < 4 {
-        return CrimRead::Refused(bounds::truncated(b, CRIM_SIGNATURE, 0, 4));
+        return CrimRead::Refused(bounds::truncated(b.len(), CRIM_SIGNATURE, 0, 4));
     }
     let found = blob::word(b, 0);
     if found != CRIM {
         return CrimRead::Refused(bounds::wrong_signature(0, CRIM, found));
     }
     if b.len() < 8 {
-        return CrimRead::Refused(bounds::truncated(b, CRIM_SIZE, 4, 4));
+        return CrimRead::Refused(bounds::truncated(b.len(), CRIM_SIZE, 4, 4));
     }
     if b.len() < 10 {
-        return CrimRead::Refused(bounds::truncated(b, CRIM_MAJOR_VERSION, 8, 2));
+        return CrimRead::Refused(bounds::truncated(b.len(), CRIM_MAJOR_VERSION, 8, 2));
     }
     if b.len() < 12 {
-        return CrimRead::Refused(bounds::truncated(b, CRIM_MINOR_VERSION, 10, 2));
+        return CrimRead::Refused(bounds::truncated(b.len(), CRIM_MINOR_VERSION, 10, 2));
     }
     if b.len() < 16 {
-        return CrimRead::Refused(bounds::truncated(b, CRIM_PROVIDER_COUNT, 12, 4));
+        return CrimRead::Refused(bounds::truncated(b.len(), CRIM_PROVIDER_COUNT, 12, 4));
     }
     let size = blob::word(b, 4);
     if size < 16 {

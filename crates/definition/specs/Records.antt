@@ -8,6 +8,7 @@ use borrow.Author.Tests.{ne-eqb}
 use Rattle.blob.specs.Le.{le}
 use Rattle.blob.specs.Reading.{Reading, Outcome, done, refused, run, many, verdict}
 use Rattle.blob.specs.Laws.{run-number, run-after, run-stopped}
+use Rattle.format.specs.Region.{blob-end}
 use Rattle.format.specs.Name.{absent, nameAt}
 use Rattle.format.specs.Table.{CHAN, KEYW, TASK, header-length, stride, tableEnd}
 use Rattle.format.specs.Definition.{guidAt, channelFields, keywordFields, taskFields, plainFields, fieldsAt, name-field, named, definitionAt, definitionRead, step, definitionsAt}
@@ -56,15 +57,15 @@ task-found at s g e = rw (run-number, run-number, run-after (guidAt (at + 8)) _ 
 
 -- a record's fields and its name make the definition
 module _ (k at : ℕ) (s : List ℕ) (d : Definition) (fields : run (fieldsAt k at) s ≡ done d) (f : ℕ) (field : f ≡ name-field k) where
-  pub definition-refused : (r : Refusal) → run (nameAt f (d .offset)) s ≡ refused r → run (definitionAt k at) s ≡ refused r
+  pub definition-refused : (r : Refusal) → run (nameAt blob-end f (d .offset)) s ≡ refused r → run (definitionAt k at) s ≡ refused r
   unfolding definitionAt
   definition-refused r e =
-      run-after (fieldsAt k at) _ s d fields ∙ run-stopped (nameAt (name-field k) (d .offset)) _ s r (rw field at e)
+      run-after (fieldsAt k at) _ s d fields ∙ run-stopped (nameAt blob-end (name-field k) (d .offset)) _ s r (rw field at e)
 
-  pub definition-found : (n : Name) → run (nameAt f (d .offset)) s ≡ done n → run (definitionAt k at) s ≡ done (named d n)
+  pub definition-found : (n : Name) → run (nameAt blob-end f (d .offset)) s ≡ done n → run (definitionAt k at) s ≡ done (named d n)
   unfolding definitionAt run
   definition-found n e =
-      run-after (fieldsAt k at) _ s d fields ∙ run-after (nameAt (name-field k) (d .offset)) _ s n (rw field at e)
+      run-after (fieldsAt k at) _ s d fields ∙ run-after (nameAt blob-end (name-field k) (d .offset)) _ s n (rw field at e)
 
 -- what the answer for a definition tells of its reading
 pub is-definition : (o : Outcome Definition) (d : Definition) → read.Definition d ≡ definitionRead o → o ≡ done d

@@ -158,7 +158,7 @@ fn definition_at(b: &[u8], kind: u32, at: usize) -> DefinitionRead
     ensures { λ r. ⌜ r ≡ definitionRead (run (definitionAt kind at) (now (b .entry))) ⌝ }
 {
     let d = fields_at(b, kind, at);
-    match name::name_at(b, name_field(kind), d.offset) {
+    match name::name_at(b, b.len(), name_field(kind), d.offset) {
         NameRead::Name(n) => DefinitionRead::Definition(with_name(d, n)),
         NameRead::Refused(r) => DefinitionRead::Refused(r),
     }

@@ -46,11 +46,11 @@ no-header (refused q) r e = cc
 
 -- an element of no known kind
 module _ (at : ℕ) (s : List ℕ) where
-  pub unknown-past : length s < at → run (unknownAt at) s ≡ refused (offset-out provider-element-offset at (length s))
+  pub unknown-past : length s < at → run (unknownAt at) s ≡ refused (offset-out provider-element-offset at .told (length s))
   unfolding unknownAt
   unknown-past h = rw run-past
 
-  pub unknown-short : at ≤ length s → length s < at + 8 → run (unknownAt at) s ≡ refused (truncated unknown-element-header at 8 (length s))
+  pub unknown-short : at ≤ length s → length s < at + 8 → run (unknownAt at) s ≡ refused (truncated unknown-element-header at 8 .told (length s))
   unfolding unknownAt
   unknown-short h g = rw (run-room, run-past)
 
@@ -58,7 +58,7 @@ module _ (at : ℕ) (s : List ℕ) where
     here : at ≤ length s
     here = omega arith
 
-    pub unknown-out : length s < e → run (unknownAt at) s ≡ refused (offset-out unknown-element-end e (length s))
+    pub unknown-out : length s < e → run (unknownAt at) s ≡ refused (offset-out unknown-element-end e .told (length s))
     unfolding unknownAt
     unknown-out g = let i = here in rw (run-room, run-room, run-number, run-number, ← ends, run-past)
 

@@ -12,7 +12,7 @@ use Rattle.blob.specs.declared.Refusal.{Refusal}
 use Rattle.blob.specs.declared.Verdict.the-variants as verdicts
 use Rattle.blob.specs.Reading.{Outcome, done, refused, choose, run, many, each, then, verdict, values}
 use Rattle.blob.specs.Laws.{fine-value, run-bind, run-after, not-fine, fine-done, then-done, told-more, many-empty, many-stop, values-more, each-told, each-stop}
-use Rattle.blob.specs.Asks.{Finds, finds-got, finds-room, finds-next}
+use Rattle.blob.specs.Finds.{Finds, finds-got, finds-room, finds-next}
 use Rattle.format.specs.Table.{kindOf}
 use Rattle.format.specs.Definition.{step}
 use Rattle.format.specs.Provider.{Table, Element, table, unknown, descriptorAt, elementAt, elementsFrom}
@@ -25,7 +25,7 @@ module _ (s : List ℕ) (at : ℕ) where
   abbrev described : Descriptor
   described = record { offset = le 4 s at; unknown = le 4 s (at + 4); signature = le 4 s (le 4 s at) }
 
-  descriptor-told : Finds (descriptorAt at) s (λ d ps. (d ≡ described) × (le 4 s at + 4 ≤ length s))
+  descriptor-told : Finds (descriptorAt at) s (λ d. (d ≡ described) × (le 4 s at + 4 ≤ length s))
   unfolding descriptorAt
   descriptor-told =
       finds-next 4 at (λ o eo. finds-next 4 (at + 4) (λ u eu. finds-room (λ a. finds-room (λ b. finds-next 4 o (λ sig es.

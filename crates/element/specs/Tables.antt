@@ -13,7 +13,7 @@ use Rattle.blob.specs.Le.{le}
 use Rattle.blob.specs.declared.Verdict.the-variants as verdicts
 use Rattle.blob.specs.Reading.{Reading, got, done, choose, run, _>>=_, many, each, verdict, values}
 use Rattle.blob.specs.Laws.{then-done, run-bind, run-got, run-number, same, fine-done, many-count, each-done}
-use Rattle.blob.specs.Asks.{Finds, finds-got, finds-room, finds-choose, finds-demand, finds-bind, finds-next}
+use Rattle.blob.specs.Finds.{Finds, finds-got, finds-room, finds-choose, finds-demand, finds-bind, finds-next}
 use Rattle.format.specs.Table.{EVNT, MAPS, TTBL, kinds, kindOf, kindList, header-length, stride, headerAt, tableEnd}
 use Rattle.format.specs.Definition.{definitionsAt, step}
 use Rattle.format.specs.Event.{eventAt}
@@ -65,48 +65,48 @@ module _ (k at : ℕ) (h : Header) where
   as-definitions e m t = rw (ne-eqb k EVNT e, ne-eqb k MAPS m, ne-eqb k TTBL t)
 
 module _ (s : List ℕ) where
-  anything : {A : Type 0} {r : Reading A} → Finds r s (λ a ps. Unit {0})
+  anything : {A : Type 0} {r : Reading A} → Finds r s (λ a. Unit {0})
   anything = record { found = λ a e. tt }
 
   -- so many as were asked for
-  counted : {S A : Type 0} (p : S → Reading A) (to : A → S → S) (n : ℕ) (at : S) → Finds (many p to n at) s (λ vs ps. length vs ≡ n)
+  counted : {S A : Type 0} (p : S → Reading A) (to : A → S → S) (n : ℕ) (at : S) → Finds (many p to n at) s (λ vs. length vs ≡ n)
   counted p to n at = record { found = λ vs e. many-count p to n at s vs e }
 
-  events-told : (at : ℕ) (h : Header) → Finds (eventsAt at h) s (λ t ps. Told EVNT at h t)
+  events-told : (at : ℕ) (h : Header) → Finds (eventsAt at h) s (λ t. Told EVNT at h t)
   unfolding eventsAt
   events-told at h =
-      finds-bind _ anything (λ e _ _. finds-next 4 (at + 12) (λ x _. finds-bind _ (counted _ _ (h .count) _) (λ es _ n.
+      finds-bind _ anything (λ e _. finds-next 4 (at + 12) (λ x _. finds-bind _ (counted _ _ (h .count) _) (λ es n.
       finds-got (record { kind = refl; offset = refl; size = refl; count = n; list = λ _ _. refl; no-maps = λ _. refl }))))
 
-  maps-told : (at : ℕ) (h : Header) → Finds (mapsAt at h) s (λ ms ps. length ms ≡ h .count)
+  maps-told : (at : ℕ) (h : Header) → Finds (mapsAt at h) s (λ ms. length ms ≡ h .count)
   unfolding mapsAt
   maps-told at h =
-      finds-bind _ anything (λ region _ _. finds-choose (eqb (h .count) 0) (λ z. finds-got (sym (eqb-true _ _ z))) (λ z.
-      finds-room (λ _. finds-bind _ anything (λ m _ _. finds-bind _ (counted _ _ (h .count - 1) _) (λ ms _ n. finds-got (omega (arith, n, eqb-false (h .count) 0 z)))))))
+      finds-bind _ anything (λ region _. finds-choose (eqb (h .count) 0) (λ z. finds-got (sym (eqb-true _ _ z))) (λ z.
+      finds-room (λ _. finds-bind _ anything (λ m _. finds-bind _ (counted _ _ (h .count - 1) _) (λ ms n. finds-got (omega (arith, n, eqb-false (h .count) 0 z)))))))
 
-  templates-told : (at : ℕ) (h : Header) → Finds (templatesAt at h) s (λ ts ps. length ts ≡ h .count)
+  templates-told : (at : ℕ) (h : Header) → Finds (templatesAt at h) s (λ ts. length ts ≡ h .count)
   unfolding templatesAt
-  templates-told at h = finds-bind _ anything (λ region _ _. counted _ _ (h .count) _)
+  templates-told at h = finds-bind _ anything (λ region _. counted _ _ (h .count) _)
 
-  definitions-told : (k at : ℕ) (h : Header) → Finds (definitionsAt k at h) s (λ ds ps. length ds ≡ h .count)
+  definitions-told : (k at : ℕ) (h : Header) → Finds (definitionsAt k at h) s (λ ds. length ds ≡ h .count)
   unfolding definitionsAt
-  definitions-told k at h = finds-bind _ anything (λ e _ _. counted _ _ (h .count) _)
+  definitions-told k at h = finds-bind _ anything (λ e _. counted _ _ (h .count) _)
 
-  table-told : (k at : ℕ) (h : Header) → Finds (tableAt k at h) s (λ t ps. Told k at h t)
+  table-told : (k at : ℕ) (h : Header) → Finds (tableAt k at h) s (λ t. Told k at h t)
   unfolding tableAt
   table-told k at h =
       finds-choose (eqb k EVNT) (λ e. rw (eqb-true k EVNT e) (events-told at h)) (λ e.
-      finds-choose (eqb k MAPS) (λ m. finds-bind _ (maps-told at h) (λ ms _ n.
+      finds-choose (eqb k MAPS) (λ m. finds-bind _ (maps-told at h) (λ ms n.
       finds-got (record { kind = refl; offset = refl; size = refl; count = n; list = λ _ _. rw (eqb-true k MAPS m); no-maps = λ f. absurd (f (eqb-true k MAPS m)) }))) (λ m.
-      finds-choose (eqb k TTBL) (λ t. finds-bind _ (templates-told at h) (λ ts _ n.
+      finds-choose (eqb k TTBL) (λ t. finds-bind _ (templates-told at h) (λ ts n.
       finds-got (record { kind = refl; offset = refl; size = refl; count = n; list = λ _ _. rw (eqb-true k TTBL t); no-maps = λ f. refl }))) (λ t.
-      finds-bind _ (definitions-told k at h) (λ ds _ n.
+      finds-bind _ (definitions-told k at h) (λ ds n.
       finds-got (record { kind = refl; offset = refl; size = refl; count = n; list = λ x y. sym (kind-definitions k x y (eqb-false k EVNT e) (eqb-false k MAPS m) (eqb-false k TTBL t)); no-maps = λ f. refl })))))
 
   pub told : (k at : ℕ) (h : Header) (t : Table) → run (tableAt k at h) s ≡ done t → Told k at h t
   told k at h t e = table-told k at h .found t e
 
-  header-told : (k at : ℕ) → Finds (headerAt k at) s (λ h ps. (at + header-length k ≤ length s) × (h ≡ record { size = le 4 s (at + 4); count = le 4 s (at + 8) }))
+  header-told : (k at : ℕ) → Finds (headerAt k at) s (λ h. (at + header-length k ≤ length s) × (h ≡ record { size = le 4 s (at + 4); count = le 4 s (at + 8) }))
   unfolding headerAt
   header-told k at =
       finds-room (λ a. finds-room (λ b. finds-next 4 at (λ f _. finds-demand _ _ (λ d. finds-next 4 (at + 4) (λ z ez. finds-next 4 (at + 8) (λ n en.
@@ -172,7 +172,7 @@ module _ (s : List ℕ) where
   unfolding elementOf unknownAt
   is-unknown at e h = go .found e h
     where
-      go : Finds (unknownAt at) s (λ e ps. (e ≡ unknown (record { signature = le 4 s at; offset = at; size = le 4 s (at + 4) })) × (at + 8 ≤ length s))
+      go : Finds (unknownAt at) s (λ e. (e ≡ unknown (record { signature = le 4 s at; offset = at; size = le 4 s (at + 4) })) × (at + 8 ≤ length s))
       go =
           finds-room (λ a. finds-room (λ b. finds-next 4 at (λ sig es. finds-next 4 (at + 4) (λ z ez. finds-room (λ c. finds-got (rw (es, ez), b))))))
 

@@ -72,14 +72,14 @@ fn check_unknown(b: &[u8], at: usize) -> EntriesRead
     ensures { λ r. ⌜ r ≡ elementRead (run (unknownAt at) (now (b .entry))) ⌝ }
 {
     if b.len() < at {
-        return EntriesRead::Refused(bounds::offset_out(b, PROVIDER_ELEMENT_OFFSET, at));
+        return EntriesRead::Refused(bounds::offset_out(b.len(), PROVIDER_ELEMENT_OFFSET, at));
     }
     if b.len() - at < 8 {
-        return EntriesRead::Refused(bounds::truncated(b, UNKNOWN_ELEMENT_HEADER, at, 8));
+        return EntriesRead::Refused(bounds::truncated(b.len(), UNKNOWN_ELEMENT_HEADER, at, 8));
     }
     let end = end_of(at, blob::word(b, at + 4));
     if b.len() < end {
-        return EntriesRead::Refused(bounds::offset_out(b, UNKNOWN_ELEMENT_END, end));
+        return EntriesRead::Refused(bounds::offset_out(b.len(), UNKNOWN_ELEMENT_END, end));
     }
     EntriesRead::Entries(0)
 }

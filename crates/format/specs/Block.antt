@@ -21,7 +21,7 @@ use Rattle.format.specs.Area.{Row, rows}
 use Rattle.format.specs.Lists.{Entry, lists}
 use Rattle.format.specs.Answer.{moderate, areas, lent-enough, with-room, reading, counted, answer, filled, held}
 use Rattle.format.specs.Rests.{providersBytes, restsOn}
-use Rattle.format.specs.Rested.{Headed, Read, crim-read, asked, headed, n-bytes}
+use Rattle.format.specs.Rested.{Headed, Read, crim-read, asked, asked-inside, headed, n-bytes}
 
 -- bytes 4 to 7, which hold CRIM.size
 abbrev pub SizeByte : ℕ → Type 0
@@ -179,16 +179,15 @@ module _ (first second : List ℕ) (c : Crim) (read : Read first c) (l : Longer 
   body-agrees : Agree (take n first) (take m second) (providersBytes (c .providers))
   unfolding restsOn
   body-agrees =
-      each-of (λ p. p < length (take n first)) (λ p. (SizeByte p → ⊥) → same-byte p) (λ p. SizeByte p → m ≡ n) (λ p. getD (take m second) p 0 ≡ getD (take n first) p 0)
+      each-of (λ p. p < n) (λ p. (SizeByte p → ⊥) → same-byte p) (λ p. SizeByte p → m ≡ n) (λ p. getD (take m second) p 0 ≡ getD (take n first) p 0)
       (providersBytes (c .providers)) (λ p i a t.
-      let pn : p < n = omega (arith, n-bytes first c read) in
-      getD-take m second p 0 (omega (arith, l .longer)) ∙ byte-alike p a t ∙ sym (getD-take n first p 0 pn))
-      (asked first c read .inside) (each-second (λ p. (SizeByte p → ⊥) → same-byte p) (span 0 16) (providersBytes (c .providers)) (l .agrees)) (l .taken)
+      getD-take m second p 0 (omega (arith, l .longer)) ∙ byte-alike p a t ∙ sym (getD-take n first p 0 i))
+      (asked-inside first c read) (each-second (λ p. (SizeByte p → ⊥) → same-byte p) (span 0 16) (providersBytes (c .providers)) (l .agrees)) (l .taken)
 
   second-provided : run (providersOf (c .header)) (take m second) ≡ done (c .providers)
   second-provided =
       longer (providersOf (c .header)) (take n first) (take m second) (c .providers) (omega (arith, n-bytes first c read, m-bytes, l .longer))
-      (subst (Agree (take n first) (take m second)) (sym (asked first c read .equal)) body-agrees) (read .provided)
+      (subst (Agree (take n first) (take m second)) (sym (asked first c read)) body-agrees) (read .provided)
 
   second-crim : crim second ≡ done (resized second c)
   unfolding crim then providersOf

@@ -6,6 +6,7 @@ use lib.ListN.{getD}
 use lib.Dec.{eqb}
 use Rattle.blob.specs.Reading.{Reading, got, Outcome, choose, _>>=_, number, many, answer}
 use Rattle.format.specs.Field.{CHAN-name, KEYW-data, LEVL-data, OPCO-data, TASK-data}
+use Rattle.format.specs.Region.{blob-end}
 use Rattle.format.specs.Name.{nameAt, absent}
 use Rattle.format.specs.Table.{CHAN, KEYW, TASK, tableEnd, header-length, stride}
 use Rattle.format.specs.declared.Header.{Header}
@@ -74,7 +75,7 @@ named d n =
 
 -- a record, and then its name
 unfoldable pub definitionAt : ℕ → ℕ → Reading Definition
-definitionAt k at = fieldsAt k at >>= λ d. nameAt (name-field k) (d .offset) >>= λ n. got (named d n)
+definitionAt k at = fieldsAt k at >>= λ d. nameAt blob-end (name-field k) (d .offset) >>= λ n. got (named d n)
 
 -- what the code answers for a definition
 abbrev pub definitionRead : Outcome Definition → DefinitionRead

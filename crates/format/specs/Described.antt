@@ -5,7 +5,7 @@ use mathlib.Core.List.{List}
 use lib.ListN.{length}
 use Rattle.blob.specs.Le.{le}
 use Rattle.blob.specs.Reading.{Reading, done, run, number, many, each}
-use Rattle.blob.specs.Asks.{Finds, finds-got, finds-room, finds-bind, finds-next}
+use Rattle.blob.specs.Finds.{Finds, finds-got, finds-room, finds-bind, finds-next}
 use Rattle.format.specs.Definition.{guidAt, step}
 use Rattle.format.specs.Provider.{Provider, wevtAt, descriptorAt, elementAt, providerAt}
 use Rattle.format.specs.Crim.{describedAt}
@@ -25,16 +25,16 @@ pub record Described (at : ℕ) (s : List ℕ) (p : Provider) : Type 0 where
   pub elements : run (each elementAt (p .descriptors)) s ≡ done (p .elements)
 
 module _ (s : List ℕ) where
-  itself : {A : Type 0} {r : Reading A} → Finds r s (λ a ps. run r s ≡ done a)
+  itself : {A : Type 0} {r : Reading A} → Finds r s (λ a. run r s ≡ done a)
   itself = record { found = λ a e. e }
 
-  described-finds : (at : ℕ) → Finds (describedAt at) s (λ p ps. Described at s p)
+  described-finds : (at : ℕ) → Finds (describedAt at) s (λ p. Described at s p)
   unfolding describedAt providerAt
   described-finds at =
-      finds-bind _ itself (λ g _ guid. finds-next 4 (at + 16) (λ o offset.
-      finds-bind _ itself (λ w _ wevt. finds-room (λ array.
-      finds-bind _ itself (λ ds _ descriptors. finds-room (λ words.
-      finds-bind _ itself (λ us _ unknown2. finds-bind _ itself (λ es _ elements.
+      finds-bind _ itself (λ g guid. finds-next 4 (at + 16) (λ o offset.
+      finds-bind _ itself (λ w wevt. finds-room (λ array.
+      finds-bind _ itself (λ ds descriptors. finds-room (λ words.
+      finds-bind _ itself (λ us unknown2. finds-bind _ itself (λ es elements.
       finds-got (record {
         guid = guid;
         offset = offset;

@@ -8,7 +8,7 @@ use borrow.Author.Tests.{leb-true}
 use lib.ListN.{length}
 use Rattle.blob.specs.declared.Refusal.{Refusal}
 use Rattle.blob.specs.Reading.{Outcome, done, refused, run}
-use Rattle.blob.specs.Asks.{Finds, finds-got, finds-room, finds-choose, finds-demand, finds-bind}
+use Rattle.blob.specs.Finds.{Finds, finds-got, finds-room, finds-choose, finds-demand, finds-bind}
 use Rattle.format.specs.Region.{end, bounded, regionAt, endRead}
 use Rattle.format.specs.declared.EndRead.the-variants as ends
 
@@ -26,12 +26,12 @@ is-place o e h = let t = is-end (λ a. a) o e h in t .1 ∙ ap done (sym (t .2))
 
 -- a region ends behind the header, and within the blob
 module _ (f at size least : ℕ) (s : List ℕ) (h : at + least ≤ length s) where
-  region-ends : Finds (regionAt f at size least) s (λ region ps. (at + least ≤ end (length s) region) × (end (length s) region ≤ length s))
+  region-ends : Finds (regionAt f at size least) s (λ region. (at + least ≤ end (length s) region) × (end (length s) region ≤ length s))
   unfolding regionAt bounded
   region-ends =
       finds-choose (eqb size 0) (λ z. finds-got (h, omega arith)) (λ z.
-      finds-bind (λ e ps. (at + least ≤ e) × (e ≤ length s))
-      (finds-demand _ _ (λ d. finds-room (λ w. finds-got (omega (arith, leb-true least size d), w)))) (λ e ps g. finds-got g))
+      finds-bind (λ e. (at + least ≤ e) × (e ≤ length s))
+      (finds-demand _ _ (λ d. finds-room (λ w. finds-got (omega (arith, leb-true least size d), w)))) (λ e g. finds-got g))
 
   pub region-bounds : (e : ℕ) → ends.End e ≡ endRead (end (length s)) (run (regionAt f at size least) s) → (at + least ≤ e) × (e ≤ length s)
   region-bounds e g =

@@ -1,8 +1,8 @@
 -- What is right, in reading order.
 pub mod Field
 pub mod Refuse
-pub mod Name
 pub mod Region
+pub mod Name
 pub mod Area
 pub mod Entry
 pub mod Table

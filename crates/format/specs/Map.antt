@@ -3,11 +3,10 @@
 use Prim.Native.Nat.{ℕ, _+_, _-_, _*_, min}
 use mathlib.Core.List.{List, [], _∷_}
 use lib.Dec.{leb, eqb}
-use Rattle.blob.specs.declared.Refusal.{Refusal}
-use Rattle.blob.specs.Reading.{Reading, got, Outcome, room, choose, demand, _>>=_, number, many, answer}
+use Rattle.blob.specs.Reading.{Fault, Reading, got, Outcome, room, choose, demand, _>>=_, number, many, answer}
 use Rattle.format.specs.Field.{MAPS-offsets-array, MAPS-map-offset, MAPS-map-signature, VMAP-size-field, VMAP-header, VMAP-size, VMAP-entries-array, VMAP-map-string, table-size}
-use Rattle.format.specs.Refuse.{whole, within, size-out}
-use Rattle.format.specs.Region.{Region, blob-end, until, end, inside, regionAt}
+use Rattle.format.specs.Refuse.{a-code, whole, within, size-out}
+use Rattle.format.specs.Region.{Region, blob-end, until, against, inside, regionAt}
 use Rattle.format.specs.Name.{nameAt, absent}
 use Rattle.format.specs.Table.{MAPS, header-length}
 use Rattle.format.specs.Definition.{step}
@@ -33,21 +32,25 @@ unfoldable pub entryAt : ℕ → Reading MapEntry
 entryAt at = number 4 at >>= λ identifier. number 4 (at + 4) >>= λ message. got (record { identifier = identifier; message = message })
 
 -- "its bytes are as many as its size, cut at the region end; under 16 of them is 1"
-abbrev pub few : Region → ℕ → ℕ → ℕ → Refusal
-few region at size n = record { code = 1; field = VMAP-header; place = at; first = 16; second = min size (end n region - at) }
+abbrev pub few : ℕ → ℕ → Fault
+few at size =
+    record {
+      told = λ n. record { code = 1; field = VMAP-header; place = at; first = 16; second = min size (n - at) };
+      coded = λ n. a-code;
+    }
 
 -- "A VMAP needs 8 bytes (1); its bytes ..; a size past them is 3; entries past the size are 3; then the name. Data is what remains."
 unfoldable pub valueMapAt : Region → ℕ → Reading Mapped
 valueMapAt region at =
     whole VMAP-size-field at 8 (
     number 4 (at + 4) >>= λ size.
-    demand (leb 16 size) (few region at size) (
-    inside region (at + 16) (few region at size) (
+    demand (leb 16 size) (against region (few at size)) (
+    inside region (at + 16) (few at size) (
     inside region (at + size) (size-out VMAP-size at size) (
     number 4 (at + 8) >>= λ string. number 4 (at + 12) >>= λ count.
     demand (leb (16 + 8 * count) size) (size-out VMAP-entries-array at size) (
     many entryAt (step 8) count (at + 16) >>= λ entries.
-    nameAt VMAP-map-string string >>= λ name.
+    nameAt blob-end VMAP-map-string string >>= λ name.
     got (record {
       map =
           record {

@@ -5,7 +5,8 @@ use Prim.Native.Nat.{ℕ, zero, suc, _+_, _-_, _/_, _%_}
 use mathlib.Core.Bool.{Bool, true, false, not, _&&_}
 use lib.Dec.{leb, ltb, eqb}
 use Rattle.blob.specs.Reading.{Reading, got, Outcome, choose, demand, _>>=_, number, answer}
-use Rattle.format.specs.Refuse.{whole, within, size-out, not-utf16}
+use Rattle.format.specs.Refuse.{truncated, size-out, offset-out, not-utf16}
+use Rattle.format.specs.Region.{Region, inside}
 use Rattle.format.specs.declared.Name.{Name}
 use Rattle.format.specs.declared.NameRead.{NameRead}
 use Rattle.format.specs.declared.NameRead.the-variants as read
@@ -31,19 +32,20 @@ text f o (suc left) at k waits =
     (choose (eqb u 0) (got (record { start = o + 4; units = k; ended = true }))
     (demand (not (low u)) (not-utf16 f o) (text f o left (at + 2) (k + 1) (high u))))
 
--- a name that is not absent. The original refuses an odd length before it looks at any unit (docs/DIFFERENCES.md)
-unfoldable pub sized : ℕ → ℕ → Reading Name
-sized f o =
-    within f o (
-    whole f o 4 (
+-- a name that is not absent, in the region that names stand in: the blob, where no rule says another. The original refuses an odd
+-- length before it looks at any unit (docs/DIFFERENCES.md)
+unfoldable pub sized : Region → ℕ → ℕ → Reading Name
+sized region f o =
+    inside region o (offset-out f o) (
+    inside region (o + 4) (truncated f o 4) (
     number 4 o >>= λ size.
     demand (leb 4 size) (size-out f o size) (
-    whole f o size (
+    inside region (o + size) (truncated f o size) (
     demand (eqb (size % 2) 0) (not-utf16 f o) (
     text f o ((size - 4) / 2) (o + 4) 0 false)))))
 
-unfoldable pub nameAt : ℕ → ℕ → Reading Name
-nameAt f o = choose (eqb o 0) (got absent) (sized f o)
+unfoldable pub nameAt : Region → ℕ → ℕ → Reading Name
+nameAt region f o = choose (eqb o 0) (got absent) (sized region f o)
 
 -- what the code answers for a name
 abbrev pub nameRead : Outcome Name → NameRead

@@ -1,10 +1,9 @@
--- Regions: where the bytes of a TTBL or a MAPS end.
+-- Regions: where the bytes of a TTBL or a MAPS end, and the names in a blob.
 -- "size 0 ends the region at the blob end" (TTBL); "region as for TTBL, minimum 16" (MAPS); "Otherwise size under the header or
 -- past the blob is 3" (tables).
 use Prim.Native.Nat.{ℕ, _+_}
 use lib.Dec.{leb, eqb}
-use Rattle.blob.specs.declared.Refusal.{Refusal}
-use Rattle.blob.specs.Reading.{Reading, got, room, Outcome, choose, demand, _>>=_, answer}
+use Rattle.blob.specs.Reading.{Fault, Reading, got, room, Outcome, choose, demand, _>>=_, answer}
 use Rattle.format.specs.Refuse.{size-out}
 use Rattle.format.specs.declared.EndRead.{EndRead}
 use Rattle.format.specs.declared.EndRead.the-variants as read
@@ -18,10 +17,14 @@ abbrev pub end : ℕ → Region → ℕ
 end n blob-end = n
 end n (until e) = e
 
--- go on where a place is not past the region's end
-unfoldable pub inside : {A : Type 0} → Region → ℕ → (ℕ → Refusal) → Reading A → Reading A
+-- what is told against the region's end, not the blob's
+abbrev pub against : Region → Fault → Fault
+against region r = record { told = λ n. r .told (end n region); coded = λ n. r .coded (end n region) }
+
+-- go on where a place is not past the region's end, against which the refusal is told
+unfoldable pub inside : {A : Type 0} → Region → ℕ → Fault → Reading A → Reading A
 inside blob-end p r k = room p r k
-inside (until e) p r k = demand (leb p e) r k
+inside (until e) p r k = demand (leb p e) (against (until e) r) k
 
 -- a size that is not 0 is at least so much, and ends within the blob
 unfoldable pub bounded : ℕ → ℕ → ℕ → ℕ → Reading ℕ

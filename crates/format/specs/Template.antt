@@ -7,8 +7,8 @@ use lib.Dec.{leb, ltb, eqb}
 use Rattle.blob.specs.declared.Refusal.{Refusal}
 use Rattle.blob.specs.Reading.{Reading, got, stop, Outcome, choose, demand, _>>=_, number, many, answer}
 use Rattle.format.specs.Field.{TEMP-header, TEMP-size, TEMP-item-name-count-expected-0, TEMP-template-items-offset, TEMP-template-items-offset-relative, table-size}
-use Rattle.format.specs.Refuse.{fine, truncated, wrong-signature, size-out, count-out, offset-out}
-use Rattle.format.specs.Region.{Region, end, inside, regionAt}
+use Rattle.format.specs.Refuse.{a-code, fine, truncated, wrong-signature, size-out, count-out, offset-out}
+use Rattle.format.specs.Region.{Region, inside, regionAt}
 use Rattle.format.specs.Table.{TTBL, header-length}
 use Rattle.format.specs.Definition.{guidAt}
 use Rattle.format.specs.declared.Header.{Header}
@@ -43,13 +43,13 @@ itemsOf temp size offset =
 -- TEMP and the TEMP's size." What each case says, in a TEMP of a size, in a blob of n bytes
 abbrev pub itemsSays : (size n : ℕ) → Items → Refusal
 itemsSays size n (items.At t) = fine
-itemsSays size n (items.Before b) = offset-out TEMP-template-items-offset (b .0) n
-itemsSays size n (items.Past t) = offset-out TEMP-template-items-offset-relative (t .0) size
+itemsSays size n (items.Before b) = offset-out TEMP-template-items-offset (b .0) .told n
+itemsSays size n (items.Past t) = offset-out TEMP-template-items-offset-relative (t .0) .told size
 
 unfoldable pub itemsAt : ℕ → Items → Reading TemplatePlace
 itemsAt size (items.At t) = got t
-itemsAt size (items.Before b) = stop (λ n. itemsSays size n (items.Before b))
-itemsAt size (items.Past t) = stop (λ n. itemsSays size n (items.Past t))
+itemsAt size (items.Before b) = stop (record { told = λ n. itemsSays size n (items.Before b); coded = λ n. a-code })
+itemsAt size (items.Past t) = stop (record { told = λ n. itemsSays size n (items.Past t); coded = λ n. a-code })
 
 -- the fields of a TEMP whose size is right. "BinXML runs from TEMP byte 40 to the items; items below 40 give length 0, start still
 -- TEMP + 40."
@@ -73,7 +73,7 @@ templateFields at size =
 
 unfoldable pub templateAt : Region → ℕ → Reading Template
 templateAt region at =
-    inside region (at + 40) (λ n. truncated TEMP-header at 40 (end n region)) (
+    inside region (at + 40) (truncated TEMP-header at 40) (
     number 4 at >>= λ found.
     demand (eqb found TEMP) (wrong-signature at TEMP found) (
     number 4 (at + 4) >>= λ size.

@@ -12,7 +12,7 @@ use Rattle.blob.specs.declared.Verdict.{Verdict}
 use Rattle.blob.specs.declared.Verdict.the-variants as verdicts
 use Rattle.blob.specs.Reading.{Reading, Outcome, done, refused, choose, run, many, then, values}
 use Rattle.blob.specs.Laws.{choose-done, run-room, run-past}
-use Rattle.blob.specs.Asks.{Finds, finds-got, finds-room, finds-demand, finds-next}
+use Rattle.blob.specs.Finds.{Finds, finds-got, finds-room, finds-demand, finds-next}
 use Rattle.format.specs.Field.{CRIM-provider-descriptor-array}
 use Rattle.format.specs.Refuse.{truncated}
 use Rattle.format.specs.Definition.{step}
@@ -100,7 +100,7 @@ pub record Sized (s : List ℕ) (h : CrimHeader) : Type 0 where
   pub least : 16 ≤ h .size
   pub lent : h .size ≤ length s
 
-header-sized : (s : List ℕ) → Finds header s (λ c ps. Sized s c)
+header-sized : (s : List ℕ) → Finds header s (λ c. Sized s c)
 unfolding header
 header-sized s =
     finds-room (λ _. finds-next 4 0 (λ found _. finds-demand _ _ (λ _.
@@ -112,7 +112,7 @@ pub sized : (s : List ℕ) (h : CrimHeader) → run header s ≡ done h → Size
 sized s h e = header-sized s .found h e
 
 module _ (h : CrimHeader) (s : List ℕ) where
-  pub array-cut : length s < 16 + 20 * h .count → run (providersOf h) s ≡ refused (truncated CRIM-provider-descriptor-array 16 (20 * h .count) (length s))
+  pub array-cut : length s < 16 + 20 * h .count → run (providersOf h) s ≡ refused (truncated CRIM-provider-descriptor-array 16 (20 * h .count) .told (length s))
   unfolding providersOf
   array-cut g = run-past _ _ _ _ g
 

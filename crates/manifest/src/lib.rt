@@ -231,7 +231,12 @@ fn check_block(b: &[u8], h: CrimHeader) -> NeedsRead
 {
     let bytes = 20 * (h.count as usize);
     if b.len() - 16 < bytes {
-        return NeedsRead::Refused(bounds::truncated(b, CRIM_PROVIDER_DESCRIPTOR_ARRAY, 16, bytes));
+        return NeedsRead::Refused(bounds::truncated(
+            b.len(),
+            CRIM_PROVIDER_DESCRIPTOR_ARRAY,
+            16,
+            bytes,
+        ));
     }
     check(b, h.count)
 }

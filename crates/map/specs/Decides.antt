@@ -11,12 +11,12 @@ use borrow.Author.Tests.{le-leb, lt-leb, leb-true, eq-eqb, ne-eqb}
 use Rattle.blob.specs.declared.Refusal.{Refusal}
 use Rattle.blob.specs.declared.Verdict.the-variants as verdicts
 use Rattle.blob.specs.Le.{le}
-use Rattle.blob.specs.Reading.{Reading, got, Outcome, done, refused, choose, demand, run, then, _>>=_, number, many, verdict, values}
+use Rattle.blob.specs.Reading.{Fault, Reading, got, Outcome, done, refused, choose, demand, run, then, _>>=_, number, many, verdict, values}
 use Rattle.blob.specs.Laws.{fine-done, run-bind, run-number, run-room, run-past, run-holds, run-fails, many-more}
-use Rattle.blob.specs.Asks.{Finds, finds-got, finds-room, finds-choose, finds-demand, finds-bind, finds-next}
+use Rattle.blob.specs.Finds.{Finds, finds-got, finds-room, finds-choose, finds-demand, finds-bind, finds-next}
 use Rattle.format.specs.Field.{MAPS-map-offset, MAPS-map-signature, VMAP-size-field, VMAP-header, VMAP-size, VMAP-entries-array, VMAP-map-string}
 use Rattle.format.specs.Refuse.{truncated, size-out, offset-out}
-use Rattle.format.specs.Region.{until, inside}
+use Rattle.format.specs.Region.{blob-end, until, against, inside}
 use Rattle.format.specs.Name.{nameAt}
 use Rattle.format.specs.Definition.{step}
 use Rattle.format.specs.Map.{Mapped, VMAP, few, entryAt, valueMapAt, otherMap, mapAt, mapRead}
@@ -82,12 +82,12 @@ pub refuses : (o : Outcome Mapped) (x y : Refusal) → x ≡ y → o ≡ refused
 refuses o x y p q = ap read.Refused p ∙ sym (ap mapRead q)
 
 -- of two tests with one refusal the second fails where the first holds
-either-fails : {A : Type 0} (t u : Bool) (r : ℕ → Refusal) (k : Reading A) (s : List ℕ) → (t ≡ true → u ≡ false) → run (demand t r (demand u r k)) s ≡ refused (r (length s))
+either-fails : {A : Type 0} (t u : Bool) (r : Fault) (k : Reading A) (s : List ℕ) → (t ≡ true → u ≡ false) → run (demand t r (demand u r k)) s ≡ refused (r .told (length s))
 either-fails false u r k s h = run-fails _ _ _ _ refl
 either-fails true u r k s h = run-holds _ _ _ _ refl ∙ run-fails _ _ _ _ (h refl)
 
 module _ (e at : ℕ) (s : List ℕ) where
-  pub value-cut : length s < at + 8 → run (valueMapAt (until e) at) s ≡ refused (truncated VMAP-size-field at 8 (length s))
+  pub value-cut : length s < at + 8 → run (valueMapAt (until e) at) s ≡ refused (truncated VMAP-size-field at 8 .told (length s))
   unfolding valueMapAt
   value-cut h = run-past _ _ _ _ h
 
@@ -101,7 +101,7 @@ module _ (e at : ℕ) (s : List ℕ) where
         ∙ rw (sym es, q) (either-fails (leb 16 size) (leb (at + 16) e) _ _ s (λ p. lt-leb (at + 16) e (omega (arith, leb-true 16 size p))))
 
     module _ (l : 16 ≤ size) (w : at + 16 ≤ e) where
-      pub value-past : e < at + size → run (valueMapAt (until e) at) s ≡ refused (size-out VMAP-size at size 0)
+      pub value-past : e < at + size → run (valueMapAt (until e) at) s ≡ refused (size-out VMAP-size at size .told 0)
       unfolding valueMapAt inside
       value-past g =
           run-room _ _ _ _ h
@@ -110,7 +110,7 @@ module _ (e at : ℕ) (s : List ℕ) where
 
       module _ (string count : ℕ) (eo : string ≡ le 4 s (at + 8)) (ec : count ≡ le 4 s (at + 12)) (g : at + size ≤ e) where
         -- the tests before that of the entries are passed
-        behind : (k : ℕ → ℕ → Reading Mapped) → run (demand (leb 16 size) (few (until e) at size) (demand (leb (at + 16) e) (few (until e) at size) (demand (leb (at + size) e) (size-out VMAP-size at size)
+        behind : (k : ℕ → ℕ → Reading Mapped) → run (demand (leb 16 size) (against (until e) (few at size)) (demand (leb (at + 16) e) (against (until e) (few at size)) (demand (leb (at + size) e) (size-out VMAP-size at size)
             (number 4 (at + 8) >>= λ o. number 4 (at + 12) >>= λ n. k o n)))) s ≡ run (k string count) s
         behind k =
             run-holds _ _ _ _ (le-leb _ _ l)
@@ -120,29 +120,29 @@ module _ (e at : ℕ) (s : List ℕ) where
             ∙ run-number _ _ _ _
             ∙ rw (eo, ec)
 
-        pub value-over : size < 16 + 8 * count → run (valueMapAt (until e) at) s ≡ refused (size-out VMAP-entries-array at size 0)
+        pub value-over : size < 16 + 8 * count → run (valueMapAt (until e) at) s ≡ refused (size-out VMAP-entries-array at size .told 0)
         unfolding valueMapAt inside
         value-over f = run-room _ _ _ _ h ∙ run-number _ _ _ _ ∙ rw (sym es) (behind _ ∙ run-fails _ _ _ _ (lt-leb _ _ f))
 
         module _ (f : 16 + 8 * count ≤ size) where
-          tested : run (valueMapAt (until e) at) s ≡ run (entries count (at + 16) >>= λ es. nameAt VMAP-map-string string >>= λ name. got (record { map = valueMap at size string count name; entries = es })) s
+          tested : run (valueMapAt (until e) at) s ≡ run (entries count (at + 16) >>= λ es. nameAt blob-end VMAP-map-string string >>= λ name. got (record { map = valueMap at size string count name; entries = es })) s
           unfolding valueMapAt inside
           tested = run-room _ _ _ _ h ∙ run-number _ _ _ _ ∙ rw (sym es) (behind _ ∙ run-holds _ _ _ _ (le-leb _ _ f))
 
-          pub value-named : mapRead (run (valueMapAt (until e) at) s) ≡ namedMap at size string count (run (nameAt VMAP-map-string string) s)
+          pub value-named : mapRead (run (valueMapAt (until e) at) s) ≡ namedMap at size string count (run (nameAt blob-end VMAP-map-string string) s)
           unfolding run then
-          value-named = ap mapRead (tested ∙ run-entries _ count (at + 16) s ∙ run-bind (nameAt VMAP-map-string string) _ s) ∙ go (run (nameAt VMAP-map-string string) s)
+          value-named = ap mapRead (tested ∙ run-entries _ count (at + 16) s ∙ run-bind (nameAt blob-end VMAP-map-string string) _ s) ∙ go (run (nameAt blob-end VMAP-map-string string) s)
             where
               go : (o : Outcome Name) → mapRead (then o (λ name. done (record { map = valueMap at size string count name; entries = values (run (entries count (at + 16)) s) })))
                   ≡ namedMap at size string count o
               go (done name) = refl
               go (refused r) = refl
 
-  pub map-past : length s < at → run (mapAt (until e) at) s ≡ refused (offset-out MAPS-map-offset at (length s))
+  pub map-past : length s < at → run (mapAt (until e) at) s ≡ refused (offset-out MAPS-map-offset at .told (length s))
   unfolding mapAt
   map-past h = run-past _ _ _ _ h
 
-  pub map-cut : at ≤ length s → length s < at + 4 → run (mapAt (until e) at) s ≡ refused (truncated MAPS-map-signature at 4 (length s))
+  pub map-cut : at ≤ length s → length s < at + 4 → run (mapAt (until e) at) s ≡ refused (truncated MAPS-map-signature at 4 .told (length s))
   unfolding mapAt
   map-cut h g = run-room _ _ _ _ h ∙ run-past _ _ _ _ g
 
@@ -163,13 +163,13 @@ pub record Told (s : List ℕ) (m : Mapped) : Type 0 where
   pub entries : m .entries ≡ values (run (entries (m .map .count) (m .map .offset + 16)) s)
   pub inside : 8 * m .map .count ≤ length s - (m .map .offset + 16)
 
-pub map-told : (e at : ℕ) (s : List ℕ) → e ≤ length s → Finds (mapAt (until e) at) s (λ m ps. Told s m)
+pub map-told : (e at : ℕ) (s : List ℕ) → e ≤ length s → Finds (mapAt (until e) at) s (λ m. Told s m)
 unfolding mapAt valueMapAt inside run many
 map-told e at s h =
     finds-room (λ a. finds-room (λ b. finds-next 4 at (λ signature es. finds-choose (eqb signature VMAP)
     (λ v. finds-room (λ c. finds-next 4 (at + 4) (λ size ez. finds-demand _ _ (λ l. finds-demand _ _ (λ w. finds-demand _ _ (λ g.
     finds-next 4 (at + 8) (λ o eo. finds-next 4 (at + 12) (λ n en. finds-demand _ _ (λ f.
-    finds-bind (λ es ps. es ≡ values (run (entries n (at + 16)) s)) (record { found = λ es q. sym (ap values q) }) (λ es ps q.
-    finds-bind (λ m ps. Unit {0}) (record { found = λ m q. tt }) (λ m qs q'.
+    finds-bind (λ es. es ≡ values (run (entries n (at + 16)) s)) (record { found = λ es q. sym (ap values q) }) (λ es q.
+    finds-bind (λ m. Unit {0}) (record { found = λ m q. tt }) (λ m q'.
     finds-got (record { entries = q; inside = omega (arith, leb-true (at + size) e g, leb-true (16 + 8 * n) size f) }))))))))))))
     (λ v. finds-got (record { entries = refl; inside = omega arith })))))

@@ -12,7 +12,7 @@ use Rattle.blob.specs.declared.Verdict.the-variants as verdicts
 use Rattle.blob.specs.Le.{le}
 use Rattle.blob.specs.Reading.{Reading, got, room, Outcome, done, refused, choose, run, then, _>>=_, number, many, verdict}
 use Rattle.blob.specs.Laws.{not-fine, run-bind, run-number, run-room, run-past, bind-same, many-same}
-use Rattle.blob.specs.Asks.{Finds, finds-choose, finds-next}
+use Rattle.blob.specs.Finds.{Finds, finds-choose, finds-next}
 use Rattle.format.specs.Refuse.{size-out}
 use Rattle.format.specs.Region.{Region, until, end, regionAt, endRead}
 use Rattle.format.specs.Ends.{is-end, no-end}
@@ -41,7 +41,7 @@ module _ (e start first place : ℕ) (s : List ℕ) where
   unfolding listedAt
   listed-word word h w = rw (ne-eqb _ _ h, w) (run-number _ _ _ _)
 
-  listed-finds : e ≤ length s → Finds (listedAt e start first place) s (λ m ps. Told s m)
+  listed-finds : e ≤ length s → Finds (listedAt e start first place) s (λ m. Told s m)
   unfolding listedAt
   listed-finds h = finds-choose (eqb place start) (λ t. map-told e first s h) (λ t. finds-next 4 place (λ word w. map-told e word s h))
 
@@ -62,7 +62,7 @@ behind R at size count =
     got (m ∷ ms)))
 
 module _ (R : Region) (at size : ℕ) (s : List ℕ) where
-  behind-cut : (count : ℕ) → at + 16 ≤ length s → length s < at + 12 + 4 * count → run (behind R at size count) s ≡ refused (size-out MAPS-offsets-array at size 0)
+  behind-cut : (count : ℕ) → at + 16 ≤ length s → length s < at + 12 + 4 * count → run (behind R at size count) s ≡ refused (size-out MAPS-offsets-array at size .told 0)
   behind-cut zero a h = absurd (omega arith)
   behind-cut (suc n) a h = rw (eqb·suc-zero n) (run-past _ _ _ _ (omega arith))
 
@@ -96,7 +96,7 @@ module _ (at : ℕ) (h : Header) (s : List ℕ) where
     unfolding mapsAt then
     opened = run-bind _ _ _ ∙ ap (λ o. then o (λ R. run (behind R at (h .size) (h .count)) s)) (is-end (end (length s)) (region at (h .size) s) e f .1)
 
-    pub maps-cut : at + 16 ≤ length s → length s < at + 12 + 4 * h .count → run (mapsAt at h) s ≡ refused (size-out MAPS-offsets-array at (h .size) 0)
+    pub maps-cut : at + 16 ≤ length s → length s < at + 12 + 4 * h .count → run (mapsAt at h) s ≡ refused (size-out MAPS-offsets-array at (h .size) .told 0)
     maps-cut a g = opened ∙ behind-cut _ at (h .size) s (h .count) a g
 
     pub maps-listed : at + 12 + 4 * h .count ≤ length s → run (mapsAt at h) s ≡ run (listed e (at + 12) (h .count)) s

@@ -6,7 +6,7 @@ ghost use lib.ListN.{length};
 ghost use Rattle.blob.specs.Laid.{laid, flat};
 ghost use Rattle.blob.specs.Reading.{run, verdict, values, choose};
 ghost use Rattle.format.specs.Field.{VMAP-map-string};
-ghost use Rattle.format.specs.Region.{until};
+ghost use Rattle.format.specs.Region.{blob-end, until};
 ghost use Rattle.format.specs.Map.{valueMapAt, otherMap, mapAt, mapsAt, mapRead};
 ghost use Rattle.format.specs.Needs.{entryCount, mapsRead};
 ghost use Rattle.format.specs.Lists.{mapWords, mapEntryWords, mapList};
@@ -84,9 +84,9 @@ fn value_map(at: usize, size: u32, string: u32, count: u32, name: Name) -> Map
 // The same with the name that its string offset tells.
 fn named_map(b: &[u8], at: usize, size: u32, string: u32, count: u32) -> MapRead
     requires { ⌜ (at + size ≤ length (now b)) × (length (now b) ≤ 16777216) × (16 + 8 * count ≤ size) ⌝ }
-    ensures { λ r. ⌜ r ≡ namedMap at size string count (run (nameAt VMAP-map-string string) (now (b .entry))) ⌝ }
+    ensures { λ r. ⌜ r ≡ namedMap at size string count (run (nameAt blob-end VMAP-map-string string) (now (b .entry))) ⌝ }
 {
-    match name::name_at(b, VMAP_MAP_STRING, string) {
+    match name::name_at(b, b.len(), VMAP_MAP_STRING, string) {
         NameRead::Name(name) => MapRead::Map(value_map(at, size, string, count, name)),
         NameRead::Refused(r) => MapRead::Refused(r),
     }
@@ -98,7 +98,7 @@ fn value_map_at(b: &[u8], end: usize, at: usize) -> MapRead
     ensures { λ r. ⌜ r ≡ mapRead (run (valueMapAt (until end) at) (now (b .entry))) ⌝ }
 {
     if b.len() - at < 8 {
-        return MapRead::Refused(bounds::truncated(b, VMAP_SIZE_FIELD, at, 8));
+        return MapRead::Refused(bounds::truncated(b.len(), VMAP_SIZE_FIELD, at, 8));
     }
     let size = blob::word(b, at + 4);
     let bytes = cut(size, at, end);
@@ -146,10 +146,10 @@ fn map_at(b: &[u8], end: usize, at: usize) -> MapRead
     ensures { λ r. ⌜ r ≡ mapRead (run (mapAt (until end) at) (now (b .entry))) ⌝ }
 {
     if b.len() < at {
-        return MapRead::Refused(bounds::offset_out(b, MAPS_MAP_OFFSET, at));
+        return MapRead::Refused(bounds::offset_out(b.len(), MAPS_MAP_OFFSET, at));
     }
     if b.len() - at < 4 {
-        return MapRead::Refused(bounds::truncated(b, MAPS_MAP_SIGNATURE, at, 4));
+        return MapRead::Refused(bounds::truncated(b.len(), MAPS_MAP_SIGNATURE, at, 4));
     }
     let signature = blob::word(b, at);
     if signature == VMAP {

@@ -70,7 +70,7 @@ module _ (f o : ℕ) (s : List ℕ) (left at k : ℕ) where
 
 -- what follows a surrogate: the text behind the pair, or the refusal
 unfoldable after : (f o : ℕ) → List ℕ → (left at k : ℕ) → Bool → Outcome Name
-after f o s left at k p = choose p (run (text f o left at k false) s) (refused (not-utf16 f o 0))
+after f o s left at k p = choose p (run (text f o left at k false) s) (refused (not-utf16 f o .told 0))
 
 module _ (f o : ℕ) (s : List ℕ) where
   -- behind a high surrogate
@@ -81,7 +81,7 @@ module _ (f o : ℕ) (s : List ℕ) where
       let e : suc left - 1 ≡ left = omega arith in
       rw (run-number, e, lt-ltb 0 (suc left) (omega arith)) (go (low (le 2 s at)))
     where
-      go : (t : Bool) → run (choose t (text f o left (at + 2) (k + 1) false) (stop (not-utf16 f o))) s ≡ choose t (run (text f o left (at + 2) (k + 1) false) s) (refused (not-utf16 f o 0))
+      go : (t : Bool) → run (choose t (text f o left (at + 2) (k + 1) false) (stop (not-utf16 f o))) s ≡ choose t (run (text f o left (at + 2) (k + 1) false) s) (refused (not-utf16 f o .told 0))
       go true = refl
       go false = refl
 
@@ -106,7 +106,7 @@ module _ (f o : ℕ) (s : List ℕ) where
     unfolding after
     text-pair k' e p = text-surrogate left at k h d g ∙ rw (p, e)
 
-    pub text-unpaired : pairs s at left ≡ false → run (text f o left at k false) s ≡ refused (not-utf16 f o 0)
+    pub text-unpaired : pairs s at left ≡ false → run (text f o left at k false) s ≡ refused (not-utf16 f o .told 0)
     unfolding after
     text-unpaired p = text-surrogate left at k h d g ∙ rw p
 

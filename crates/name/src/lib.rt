@@ -8,6 +8,7 @@ ghost use Rattle.blob.specs.Le.{le};
 ghost use Rattle.blob.specs.Reading.{run};
 ghost use Rattle.format.specs.Name.{text, nameAt, nameRead};
 ghost use Rattle.format.specs.Name as spec;
+ghost use Rattle.format.specs.Region.{until};
 ghost use Rattle.name.specs.Text.{pairs, below, lows};
 use format::Name;
 use format::NameRead;
@@ -106,21 +107,21 @@ pub fn absent() -> Name
     }
 }
 
-// The name at an offset. The callers test the blob's length first, so that a text's start fits 32 bits.
-pub fn name_at(b: &[u8], field: u8, offset: u32) -> NameRead
-    requires { ⌜ length (now b) ≤ 16777216 ⌝ }
-    ensures { λ r. ⌜ r ≡ nameRead (run (nameAt field offset) (now (b .entry))) ⌝ }
+// The name at an offset, in a region that ends at `end`. The callers test the blob's length first, so that a text's start fits 32 bits.
+pub fn name_at(b: &[u8], end: usize, field: u8, offset: u32) -> NameRead
+    requires { ⌜ (end ≤ length (now b)) × (length (now b) ≤ 16777216) ⌝ }
+    ensures { λ r. ⌜ r ≡ nameRead (run (nameAt (until end) field offset) (now (b .entry))) ⌝ }
 {
     if offset == 0 {
         return NameRead::Name(absent());
     }
     let at = offset as usize;
-    if b.len() < at {
-        return NameRead::Refused(bounds::offset_out(b, field, at));
+    if end < at {
+        return NameRead::Refused(bounds::offset_out(end, field, at));
     }
-    let room = b.len() - at;
+    let room = end - at;
     if room < 4 {
-        return NameRead::Refused(bounds::truncated(b, field, at, 4));
+        return NameRead::Refused(bounds::truncated(end, field, at, 4));
     }
     let size = blob::word(b, at);
     if size < 4 {
@@ -128,7 +129,7 @@ pub fn name_at(b: &[u8], field: u8, offset: u32) -> NameRead
     }
     let needed = size as usize;
     if room < needed {
-        return NameRead::Refused(bounds::truncated(b, field, at, needed));
+        return NameRead::Refused(bounds::truncated(end, field, at, needed));
     }
     if size % 2 != 0 {
         return NameRead::Refused(bounds::not_utf16(field, at));

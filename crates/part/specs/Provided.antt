@@ -12,7 +12,7 @@ use Rattle.blob.specs.declared.Verdict.the-variants as verdicts
 use Rattle.blob.specs.Reading.{Outcome, done, run, number, many, each, answer, verdict, values}
 use Rattle.blob.specs.Laid.{laid, flat, laid-area}
 use Rattle.blob.specs.Laws.{same, fine-value, run-after, many-count}
-use Rattle.blob.specs.Asks.{Finds, finds-got, finds-room, finds-demand, finds-next}
+use Rattle.blob.specs.Finds.{Finds, finds-got, finds-room, finds-demand, finds-next}
 use Rattle.format.specs.Area.{PROVIDERS, DESCRIPTORS, UNKNOWN2, UNKNOWN}
 use Rattle.format.specs.Definition.{guidAt, step}
 use Rattle.format.specs.Provider.{Provider, wevtAt, descriptorAt, elementAt, elementsFrom}
@@ -44,7 +44,7 @@ moved-none w = simp add-zero
 
 -- an accepted header is its words
 wevt-finds : (o : ℕ) (s : List ℕ)
-    → Finds (wevtAt o) s (λ v ps. (o + 20 ≤ length s) × (v ≡ record { size = le 4 s (o + 4); message = le 4 s (o + 8); descriptors = le 4 s (o + 12); unknown2 = le 4 s (o + 16) }))
+    → Finds (wevtAt o) s (λ v. (o + 20 ≤ length s) × (v ≡ record { size = le 4 s (o + 4); message = le 4 s (o + 8); descriptors = le 4 s (o + 12); unknown2 = le 4 s (o + 16) }))
 unfolding wevtAt
 wevt-finds o s =
     finds-room (λ _. finds-room (λ room. finds-next 4 o (λ f _. finds-demand _ _ (λ _.

@@ -11,7 +11,7 @@ use borrow.Author.Tests.{leb-true}
 use Rattle.blob.specs.Le.{le}
 use Rattle.blob.specs.declared.Refusal.{Refusal}
 use Rattle.blob.specs.declared.Verdict.the-variants as verdicts
-use Rattle.blob.specs.Reading.{Reading, got, room, Outcome, done, refused, choose, run, number, many, each, verdict, values}
+use Rattle.blob.specs.Reading.{Fault, Reading, got, room, Outcome, done, refused, choose, run, number, many, each, verdict, values}
 use Rattle.blob.specs.Laws.{run-after, run-stopped, run-number, run-room, run-got, finds-number, many-fine, many-count, fine-done, not-fine}
 use Rattle.words.specs.Guid.{guid-found}
 use Rattle.format.specs.Field.{WEVT-descriptor-array, WEVT-unknown2-array}
@@ -68,12 +68,12 @@ has-refused (done a) r h = absurd (let z : _≡_ {A = ℕ} 0 1 = cc in omega ari
 has-refused (refused q) r h = cc
 
 -- what the test of room tells
-module _ (e : ℕ) (t : ℕ → Refusal) (s : List ℕ) where
+module _ (e : ℕ) (t : Fault) (s : List ℕ) where
   pub had-room : verdicts.Fine ≡ verdict (run (room e t (got (tt {0}))) s) → e ≤ length s
   unfolding run
   had-room v = go (leb e (length s)) refl v
     where
-      go : (b : Bool) → leb e (length s) ≡ b → verdicts.Fine ≡ verdict (choose b (done (tt {0})) (refused (t (length s)))) → e ≤ length s
+      go : (b : Bool) → leb e (length s) ≡ b → verdicts.Fine ≡ verdict (choose b (done (tt {0})) (refused (t .told (length s)))) → e ≤ length s
       go true g v = leb-true e (length s) g
       go false g v = absurd (let z : _≡_ {A = ℕ} 0 1 = cc in omega arith)
 
@@ -81,7 +81,7 @@ module _ (e : ℕ) (t : ℕ → Refusal) (s : List ℕ) where
   unfolding run
   had-none {A} k r v = go (leb e (length s)) v
     where
-      go : (b : Bool) → verdicts.Refused r ≡ verdict (choose b (done (tt {0})) (refused (t (length s)))) → choose b (run k s) (refused (t (length s))) ≡ refused r
+      go : (b : Bool) → verdicts.Refused r ≡ verdict (choose b (done (tt {0})) (refused (t .told (length s)))) → choose b (run k s) (refused (t .told (length s))) ≡ refused r
       go true v = absurd (let z : _≡_ {A = ℕ} 0 1 = cc in omega arith)
       go false v = cc
 

@@ -16,11 +16,11 @@ use Rattle.format.specs.declared.Descriptor.{Descriptor}
 use Rattle.format.specs.declared.DescriptorRead.the-variants as descriptor
 
 module _ (at : ℕ) (s : List ℕ) where
-  pub wevt-past : length s < at → run (wevtAt at) s ≡ refused (offset-out WEVT-provider-offset at (length s))
+  pub wevt-past : length s < at → run (wevtAt at) s ≡ refused (offset-out WEVT-provider-offset at .told (length s))
   unfolding wevtAt
   wevt-past h = rw run-past
 
-  pub wevt-short : at ≤ length s → length s < at + 20 → run (wevtAt at) s ≡ refused (truncated WEVT-header at 20 (length s))
+  pub wevt-short : at ≤ length s → length s < at + 20 → run (wevtAt at) s ≡ refused (truncated WEVT-header at 20 .told (length s))
   unfolding wevtAt
   wevt-short h g = rw (run-room, run-past)
 
@@ -28,7 +28,7 @@ module _ (at : ℕ) (s : List ℕ) where
     here : at ≤ length s
     here = omega arith
 
-    pub wevt-other : (le 4 s at ≡ WEVT → ⊥) → run (wevtAt at) s ≡ refused (wrong-signature at WEVT (le 4 s at) 0)
+    pub wevt-other : (le 4 s at ≡ WEVT → ⊥) → run (wevtAt at) s ≡ refused (wrong-signature at WEVT (le 4 s at) .told 0)
     unfolding wevtAt
     wevt-other g = let i = here in let e = ne-eqb _ _ g in rw (run-room, run-room, run-number, run-fails _ _ _ _ e)
 
@@ -40,11 +40,11 @@ module _ (at : ℕ) (s : List ℕ) where
         rw (run-room, run-room, run-number, run-holds _ _ _ _ e, run-number, run-number, run-number, run-number)
 
 module _ (at : ℕ) (s : List ℕ) (offset : ℕ) (o : offset ≡ le 4 s at) where
-  pub descriptor-past : length s < offset → run (descriptorAt at) s ≡ refused (offset-out WEVT-element-offset offset (length s))
+  pub descriptor-past : length s < offset → run (descriptorAt at) s ≡ refused (offset-out WEVT-element-offset offset .told (length s))
   unfolding descriptorAt
   descriptor-past h = rw (run-number, run-number, ← o, run-past)
 
-  pub descriptor-short : offset ≤ length s → length s < offset + 4 → run (descriptorAt at) s ≡ refused (truncated WEVT-element-signature offset 4 (length s))
+  pub descriptor-short : offset ≤ length s → length s < offset + 4 → run (descriptorAt at) s ≡ refused (truncated WEVT-element-signature offset 4 .told (length s))
   unfolding descriptorAt
   descriptor-short h g = rw (run-number, run-number, ← o, run-room, run-past)
 

@@ -31,10 +31,10 @@ fn wevt_at(b: &[u8], at: usize) -> WevtRead
     ensures { λ r. ⌜ r ≡ spec.wevtRead (run (spec.wevtAt at) (now (b .entry))) ⌝ }
 {
     if b.len() < at {
-        return WevtRead::Refused(bounds::offset_out(b, WEVT_PROVIDER_OFFSET, at));
+        return WevtRead::Refused(bounds::offset_out(b.len(), WEVT_PROVIDER_OFFSET, at));
     }
     if b.len() - at < 20 {
-        return WevtRead::Refused(bounds::truncated(b, WEVT_HEADER, at, 20));
+        return WevtRead::Refused(bounds::truncated(b.len(), WEVT_HEADER, at, 20));
     }
     let found = blob::word(b, at);
     if found != WEVT {
@@ -57,10 +57,15 @@ fn descriptor_at(b: &[u8], at: usize) -> DescriptorRead
     let unknown = blob::word(b, at + 4);
     let place = offset as usize;
     if b.len() < place {
-        return DescriptorRead::Refused(bounds::offset_out(b, WEVT_ELEMENT_OFFSET, place));
+        return DescriptorRead::Refused(bounds::offset_out(b.len(), WEVT_ELEMENT_OFFSET, place));
     }
     if b.len() - place < 4 {
-        return DescriptorRead::Refused(bounds::truncated(b, WEVT_ELEMENT_SIGNATURE, place, 4));
+        return DescriptorRead::Refused(bounds::truncated(
+            b.len(),
+            WEVT_ELEMENT_SIGNATURE,
+            place,
+            4,
+        ));
     }
     DescriptorRead::Descriptor(Descriptor {
         offset,

@@ -11,7 +11,7 @@ use Rattle.blob.specs.Le.{le}
 use Rattle.blob.specs.Places.{Each}
 use Rattle.blob.specs.Reading.{done, refused, run}
 use Rattle.blob.specs.Laws.{run-number, run-room, run-past, run-holds, run-fails, run-after, run-stopped}
-use Rattle.blob.specs.Asks.{Finds, finds-got, finds-room, finds-choose, finds-demand, finds-bind}
+use Rattle.blob.specs.Finds.{Finds, finds-got, finds-room, finds-choose, finds-demand, finds-bind}
 use Rattle.format.specs.Field.{table-offset, table-header, table-size, table-array}
 use Rattle.format.specs.Refuse.{offset-out, truncated, wrong-signature, size-out}
 use Rattle.format.specs.Region.{bounded}
@@ -36,11 +36,11 @@ pub record-bytes : (k : ℕ) → k ≤ 8 → stride k ≤ 48
 record-bytes k g = each-getD (λ n. n ≤ 48) (0 ∷ 16 ∷ 48 ∷ 16 ∷ 12 ∷ 0 ∷ 12 ∷ 28 ∷ 0 ∷ []) (omega arith) k (omega arith)
 
 module _ (k at : ℕ) (s : List ℕ) where
-  pub header-past : length s < at → run (headerAt k at) s ≡ refused (offset-out (table-offset k) at (length s))
+  pub header-past : length s < at → run (headerAt k at) s ≡ refused (offset-out (table-offset k) at .told (length s))
   unfolding headerAt
   header-past h = rw run-past
 
-  pub header-short : at ≤ length s → length s < at + header-length k → run (headerAt k at) s ≡ refused (truncated (table-header k) at (header-length k) (length s))
+  pub header-short : at ≤ length s → length s < at + header-length k → run (headerAt k at) s ≡ refused (truncated (table-header k) at (header-length k) .told (length s))
   unfolding headerAt
   header-short h g = rw (run-room, run-past)
 
@@ -48,7 +48,7 @@ module _ (k at : ℕ) (s : List ℕ) where
     here : at ≤ length s
     here = omega arith
 
-    pub header-other : (le 4 s at ≡ signature k → ⊥) → run (headerAt k at) s ≡ refused (wrong-signature at (signature k) (le 4 s at) 0)
+    pub header-other : (le 4 s at ≡ signature k → ⊥) → run (headerAt k at) s ≡ refused (wrong-signature at (signature k) (le 4 s at) .told 0)
     unfolding headerAt
     header-other g = let i = here in let e = ne-eqb _ _ g in rw (run-room, run-room, run-number, run-fails _ _ _ _ e)
 
@@ -68,7 +68,7 @@ module _ (k at : ℕ) (h : Header) (s : List ℕ) where
   abbrev bytes : ℕ
   bytes = stride k * h .count
 
-  pub end-cut : h .size ≡ 0 → length s < start + bytes → run (tableEnd k at h) s ≡ refused (truncated (table-array k) start bytes (length s))
+  pub end-cut : h .size ≡ 0 → length s < start + bytes → run (tableEnd k at h) s ≡ refused (truncated (table-array k) start bytes .told (length s))
   unfolding tableEnd
   end-cut z g = rw (z, run-past)
 
@@ -76,11 +76,11 @@ module _ (k at : ℕ) (h : Header) (s : List ℕ) where
   unfolding tableEnd run
   end-by-count z g = rw (z, run-room)
 
-  end-bounded : Finds (tableEnd k at h) s (λ e ps. (start + bytes ≤ e) × (e ≤ length s))
+  end-bounded : Finds (tableEnd k at h) s (λ e. (start + bytes ≤ e) × (e ≤ length s))
   unfolding tableEnd bounded
   end-bounded =
       finds-choose (eqb (h .size) 0) (λ z. finds-room (λ w. finds-got (omega arith, w))) (λ z.
-      finds-bind (λ e ps. e ≤ length s) (finds-demand _ _ (λ d. finds-room (λ w. finds-got w))) (λ e ps w.
+      finds-bind (λ e. e ≤ length s) (finds-demand _ _ (λ d. finds-room (λ w. finds-got w))) (λ e w.
       finds-demand _ _ (λ d. finds-got (leb-true _ _ d, w))))
 
   -- a table that ends has its records before its end, and ends in the blob
@@ -96,7 +96,7 @@ module _ (k at : ℕ) (h : Header) (s : List ℕ) where
     end-unbounded r g = rw (ne-eqb _ _ z) (run-stopped _ _ s r (rw (ef, el) at g))
 
     module _ (e : ℕ) (g : run (bounded f at (h .size) least) s ≡ done e) where
-      pub end-past : e < start + bytes → run (tableEnd k at h) s ≡ refused (size-out (table-array k) at (h .size) 0)
+      pub end-past : e < start + bytes → run (tableEnd k at h) s ≡ refused (size-out (table-array k) at (h .size) .told 0)
       unfolding tableEnd
       end-past l = rw (ne-eqb _ _ z, run-after _ _ s e (rw (ef, el) at g)) (run-fails _ _ _ _ (lt-leb _ _ l))
 

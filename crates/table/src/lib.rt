@@ -76,11 +76,16 @@ pub fn header_at(b: &[u8], kind: u32, at: usize) -> HeaderRead
     ensures { λ r. ⌜ r ≡ spec.headerRead (run (spec.headerAt kind at) (now (b .entry))) ⌝ }
 {
     if b.len() < at {
-        return HeaderRead::Refused(bounds::offset_out(b, field(TABLE_OFFSET, kind), at));
+        return HeaderRead::Refused(bounds::offset_out(b.len(), field(TABLE_OFFSET, kind), at));
     }
     let needed = header_length(kind) as usize;
     if b.len() - at < needed {
-        return HeaderRead::Refused(bounds::truncated(b, field(TABLE_HEADER, kind), at, needed));
+        return HeaderRead::Refused(bounds::truncated(
+            b.len(),
+            field(TABLE_HEADER, kind),
+            at,
+            needed,
+        ));
     }
     let found = blob::word(b, at);
     let expected = signature(kind);
@@ -104,7 +109,12 @@ pub fn table_end(b: &[u8], kind: u32, at: usize, h: Header) -> EndRead
     let bytes = records_length(kind, h.count);
     if h.size == 0 {
         if b.len() - start < bytes {
-            return EndRead::Refused(bounds::truncated(b, field(TABLE_ARRAY, kind), start, bytes));
+            return EndRead::Refused(bounds::truncated(
+                b.len(),
+                field(TABLE_ARRAY, kind),
+                start,
+                bytes,
+            ));
         }
         return EndRead::End(start + bytes);
     }

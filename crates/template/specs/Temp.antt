@@ -51,12 +51,12 @@ pub refuses : (p : Reading Template) (s : List ℕ) (x y : Refusal) → x ≡ y 
 refuses p s x y a e = ap read.Refused a ∙ sym (ap templateRead e)
 
 module _ (e at : ℕ) (s : List ℕ) where
-  pub template-cut : e < at + 40 → run (templateAt (until e) at) s ≡ refused (truncated TEMP-header at 40 e)
+  pub template-cut : e < at + 40 → run (templateAt (until e) at) s ≡ refused (truncated TEMP-header at 40 .told e)
   unfolding templateAt inside
   template-cut h = run-fails _ _ _ _ (lt-leb _ _ h)
 
   module _ (h : at + 40 ≤ e) (found : ℕ) (ef : found ≡ le 4 s at) where
-    pub template-unsigned : (found ≡ TEMP → ⊥) → run (templateAt (until e) at) s ≡ refused (wrong-signature at TEMP found 0)
+    pub template-unsigned : (found ≡ TEMP → ⊥) → run (templateAt (until e) at) s ≡ refused (wrong-signature at TEMP found .told 0)
     unfolding templateAt inside
     template-unsigned t = run-holds _ _ _ _ (le-leb _ _ h) ∙ run-number _ _ _ _ ∙ rw (sym ef) (run-fails _ _ _ _ (ne-eqb _ _ t))
 
@@ -68,11 +68,11 @@ module _ (e at : ℕ) (s : List ℕ) where
       unfolding templateAt inside
       behind = run-holds _ _ _ _ (le-leb _ _ h) ∙ run-number _ _ _ _ ∙ run-holds _ _ _ _ (eq-eqb _ _ (sym ef ∙ t)) ∙ run-number _ _ _ _ ∙ rw es
 
-      pub template-small : size < 40 → run (templateAt (until e) at) s ≡ refused (size-out TEMP-size at size 0)
+      pub template-small : size < 40 → run (templateAt (until e) at) s ≡ refused (size-out TEMP-size at size .told 0)
       template-small g = behind ∙ run-fails _ _ _ _ (lt-leb _ _ g)
 
       module _ (g : 40 ≤ size) where
-        pub template-past : e < at + size → run (templateAt (until e) at) s ≡ refused (size-out TEMP-size at size 0)
+        pub template-past : e < at + size → run (templateAt (until e) at) s ≡ refused (size-out TEMP-size at size .told 0)
         unfolding inside
         template-past w = behind ∙ run-holds _ _ _ _ (le-leb _ _ g) ∙ run-fails _ _ _ _ (lt-leb _ _ w)
 
@@ -83,7 +83,7 @@ module _ (e at : ℕ) (s : List ℕ) where
 -- what the counts and the items decide
 module _ (at size : ℕ) (s : List ℕ) (descriptors names : ℕ) (ed : descriptors ≡ le 4 s (at + 8)) (en : names ≡ le 4 s (at + 12)) where
   pub fields-counts : (not (eqb descriptors 0) || eqb names 0) ≡ false
-      → run (templateFields at size) s ≡ refused (count-out TEMP-item-name-count-expected-0 (at + 12) names 0)
+      → run (templateFields at size) s ≡ refused (count-out TEMP-item-name-count-expected-0 (at + 12) names .told 0)
   unfolding then
   fields-counts h = simp (run-number, run-bind, guid-found, run-demand, sym ed, sym en, h)
 

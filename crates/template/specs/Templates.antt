@@ -9,7 +9,7 @@ use borrow.Author.Tests.{leb-true}
 use Rattle.blob.specs.declared.Refusal.{Refusal}
 use Rattle.blob.specs.Reading.{done, refused, many, run}
 use Rattle.blob.specs.Laws.{many-same}
-use Rattle.blob.specs.Asks.{Finds, finds-got, finds-demand, finds-bind, finds-next}
+use Rattle.blob.specs.Finds.{Finds, finds-got, finds-demand, finds-bind, finds-next}
 use Rattle.format.specs.Field.{table-size}
 use Rattle.format.specs.Region.{until, end, inside, regionAt, endRead}
 use Rattle.format.specs.Table.{TTBL}
@@ -20,13 +20,13 @@ use Rattle.format.specs.declared.Header.{Header}
 use Rattle.format.specs.declared.Template.{Template}
 
 -- a TEMP that was read ends in its region, so the next one starts there
-template-ends : (e at : ℕ) (s : List ℕ) → Finds (templateAt (until e) at) s (λ t ps. at + t .size ≤ e)
+template-ends : (e at : ℕ) (s : List ℕ) → Finds (templateAt (until e) at) s (λ t. at + t .size ≤ e)
 unfolding templateAt inside
 template-ends e at s =
     finds-demand _ _ (λ h. finds-next 4 at (λ _ _. finds-demand _ _ (λ d. finds-next 4 (at + 4) (λ size _. finds-demand _ _ (λ l. finds-demand _ _ (λ w.
     finds-next 4 (at + 8) (λ _ _. finds-next 4 (at + 12) (λ _ _. finds-next 4 (at + 16) (λ _ _. finds-next 4 (at + 20) (λ _ _.
-    finds-bind (λ _ _. Unit {0}) (record { found = λ _ _. tt }) (λ _ _ _. finds-demand _ _ (λ c.
-    finds-bind (λ _ _. Unit {0}) (record { found = λ _ _. tt }) (λ _ _ _. finds-got (leb-true (at + size) e w))))))))))))))
+    finds-bind (λ _. Unit {0}) (record { found = λ _ _. tt }) (λ _ _. finds-demand _ _ (λ c.
+    finds-bind (λ _. Unit {0}) (record { found = λ _ _. tt }) (λ _ _. finds-got (leb-true (at + size) e w))))))))))))))
 
 pub template-next : (e at : ℕ) (s : List ℕ) (t : Template) → run (templateAt (until e) at) s ≡ done t → at + t .size ≤ e
 template-next e at s t h = template-ends e at s .found t h

@@ -60,17 +60,15 @@ fn items_at(b: &[u8], size: u32, items: Items) -> ItemsRead
     match items {
         Items::At(t) => ItemsRead::At(t),
         Items::Before(p) => ItemsRead::Refused(bounds::offset_out(
-            b,
+            b.len(),
             TEMP_TEMPLATE_ITEMS_OFFSET,
             p.0 as usize,
         )),
-        Items::Past(t) => ItemsRead::Refused(Refusal {
-            code: 5,
-            field: TEMP_TEMPLATE_ITEMS_OFFSET_RELATIVE,
-            place: t.0 as u64,
-            first: size as u64,
-            second: 0,
-        }),
+        Items::Past(t) => ItemsRead::Refused(bounds::offset_out(
+            size as usize,
+            TEMP_TEMPLATE_ITEMS_OFFSET_RELATIVE,
+            t.0 as usize,
+        )),
     }
 }
 
@@ -124,13 +122,7 @@ fn template_at(b: &[u8], end: usize, at: usize) -> TemplateRead
 {
     let have = end - at;
     if have < 40 {
-        return TemplateRead::Refused(Refusal {
-            code: 1,
-            field: TEMP_HEADER,
-            place: at as u64,
-            first: 40,
-            second: have as u64,
-        });
+        return TemplateRead::Refused(bounds::truncated(end, TEMP_HEADER, at, 40));
     }
     let found = blob::word(b, at);
     if found != TEMP {

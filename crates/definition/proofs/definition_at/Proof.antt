@@ -3,6 +3,7 @@ use mathlib.Core.Path.{refl, sym, _∙_}
 use borrow.Author.Needs.{needs}
 use Rattle.blob.specs.Laws.{answer-found, answer-refused}
 use Rattle.format.specs.declared.DefinitionRead.the-variants as read
+use Rattle.format.specs.Region.{blob-end}
 use Rattle.name.specs.Read.{is-name, is-refused}
 use Rattle.definition.specs.Records.{definition-found, definition-refused}
 use Rattle.definition.proofs.definition_at.Statement.{statement}
@@ -29,14 +30,14 @@ enum-known-r c = search needs
 returns : tie.Need-returns
 returns c =
     let m = c .before .before .before .before in
-    let n = is-name _ _ _ _ (sym (c .before .before .n .given .1) ∙ m .name-at .ensures) in
+    let n = is-name blob-end _ _ _ _ (sym (c .before .before .n .given .1) ∙ m .name-at .ensures) in
     answer-found read.Definition read.Refused _ _ _ (c .with-name .ensures)
     (definition-found _ _ _ _ (m .before .before .fields-at .ensures) _ (m .before .name-field .ensures) _ n)
 
 returns-2 : tie.Need-returns-2
 returns-2 c =
     let m = c .before .before .before in
-    let n = is-refused _ _ _ _ (sym (c .before .r .given .1) ∙ m .name-at .ensures) in
+    let n = is-refused blob-end _ _ _ _ (sym (c .before .r .given .1) ∙ m .name-at .ensures) in
     answer-refused read.Definition read.Refused _ _ _ refl
     (definition-refused _ _ _ _ (m .before .before .fields-at .ensures) _ (m .before .name-field .ensures) _ n)
 

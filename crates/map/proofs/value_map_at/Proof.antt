@@ -24,8 +24,8 @@ word-requires c κs = search needs
 cut-requires : tie.Need-cut-requires
 cut-requires c κs = search needs
 
-cast-t13 : tie.Need-cast-t13
-cast-t13 c = search needs
+cast-t14 : tie.Need-cast-t14
+cast-t14 c = search needs
 
 returns-2 : tie.Need-returns-2
 returns-2 c = refuses _ _ _ refl (value-few _ _ _ _ (c .before .before .word .ensures) (omega arith) _ (c .before .cut .ensures) (c .if2 .taken))
@@ -92,7 +92,7 @@ value-map-at-spec =
     add-word
     word-requires
     cut-requires
-    cast-t13
+    cast-t14
     returns-2
     size-out-requires
     returns-3

@@ -20,16 +20,13 @@ offset-out-requires : tie.Need-offset-out-requires
 offset-out-requires c κs = search needs
 
 returns-2 : tie.Need-returns-2
-returns-2 c = refuses _ _ _ (omega arith) _ _ (c .offset-out .ensures) (sized-past _ _ _ (omega arith))
-
-sub-room : tie.Need-sub-room
-sub-room c = search needs
+returns-2 c = refuses _ _ _ _ (omega arith) _ _ (c .offset-out .ensures) (sized-past _ _ _ _ (omega arith))
 
 truncated-requires : tie.Need-truncated-requires
 truncated-requires c κs = search needs
 
 returns-3 : tie.Need-returns-3
-returns-3 c = refuses _ _ _ (omega arith) _ _ (c .truncated .ensures) (sized-cut _ _ _ (omega arith) (omega arith))
+returns-3 c = refuses _ _ _ _ (omega arith) _ _ (c .truncated .ensures) (sized-cut _ _ _ _ (omega arith) (omega arith))
 
 word-requires : tie.Need-word-requires
 word-requires c κs = search needs
@@ -40,7 +37,7 @@ size-out-requires c κs = search needs
 returns-4 : tie.Need-returns-4
 returns-4 c =
     let w = c .before .before in
-    refuses _ _ _ (omega arith) _ _ (c .size-out .ensures) (sized-small _ _ _ _ (w .word .ensures) (omega arith) (omega arith))
+    refuses _ _ _ _ (omega arith) _ _ (c .size-out .ensures) (sized-small _ _ _ _ _ (w .word .ensures) (omega arith) (omega arith))
 
 cast-needed : tie.Need-cast-needed
 cast-needed c = search needs
@@ -51,7 +48,7 @@ truncated-requires-2 c κs = search needs
 returns-5 : tie.Need-returns-5
 returns-5 c =
     let w = c .before .before .before in
-    refuses _ _ _ (omega arith) _ _ (c .truncated2 .ensures) (sized-short _ _ _ _ (w .word .ensures) (omega arith) (omega arith) (omega arith))
+    refuses _ _ _ _ (omega arith) _ _ (c .truncated2 .ensures) (sized-short _ _ _ _ _ (w .word .ensures) (omega arith) (omega arith) (omega arith))
 
 not-utf16-requires : tie.Need-not-utf16-requires
 not-utf16-requires c κs = search needs
@@ -59,8 +56,8 @@ not-utf16-requires c κs = search needs
 returns-6 : tie.Need-returns-6
 returns-6 c =
     let w = c .before .before .before .before in
-    let odd = sized-odd _ _ _ _ (w .word .ensures) (omega arith) (omega arith) (omega arith) (c .before .if6 .taken) in
-    refuses _ _ _ (omega arith) _ _ (c .not-utf16 .ensures) odd
+    refuses _ _ _ _ (omega arith) _ _ (c .not-utf16 .ensures)
+    (sized-odd _ _ _ _ _ (w .word .ensures) (omega arith) (omega arith) (omega arith) (c .before .if6 .taken))
 
 units-requires : tie.Need-units-requires
 units-requires c κs = search needs
@@ -68,8 +65,8 @@ units-requires c κs = search needs
 returns-7 : tie.Need-returns-7
 returns-7 c =
     let w = c .before .before .before .before in
-    let even = sized-text _ _ _ _ (w .word .ensures) (omega arith) (omega arith) (omega arith) (c .before .if6 .left) in
-    found _ _ _ (omega arith) _ _ (c .units .ensures) even
+    found _ _ _ _ (omega arith) _ _ (c .units .ensures)
+    (sized-text _ _ _ _ _ (w .word .ensures) (omega arith) (omega arith) (omega arith) (c .before .if6 .left))
 
 pub name-at-spec : {M : Type 1} → statement M
 name-at-spec =
@@ -79,7 +76,6 @@ name-at-spec =
     returns
     offset-out-requires
     returns-2
-    sub-room
     truncated-requires
     returns-3
     word-requires

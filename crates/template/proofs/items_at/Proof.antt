@@ -22,8 +22,11 @@ offset-out-requires c κs = search needs
 enum-known-items-3 : tie.Need-enum-known-items-3
 enum-known-items-3 c = search needs
 
-cast-t10 : tie.Need-cast-t10
-cast-t10 c = search needs
+cast-offset-out-2 : tie.Need-cast-offset-out-2
+cast-offset-out-2 c = search needs
+
+offset-out-requires-2 : tie.Need-offset-out-requires-2
+offset-out-requires-2 c κs = search needs
 
 returns : tie.Need-returns
 unfolding run itemsAt
@@ -35,7 +38,7 @@ returns-2 c = rw (c .before .before .before .items2 .given .1) (ap items.Refused
 
 returns-3 : tie.Need-returns-3
 unfolding run itemsAt
-returns-3 c = rw (c .before .before .items3 .given .1)
+returns-3 c = rw (c .before .before .before .items3 .given .1) (ap items.Refused (c .offset-out2 .ensures))
 
 pub items-at-spec : {M : Type 1} → statement M
 items-at-spec =
@@ -46,7 +49,8 @@ items-at-spec =
     cast-offset-out
     offset-out-requires
     enum-known-items-3
-    cast-t10
+    cast-offset-out-2
+    offset-out-requires-2
     returns
     returns-2
     returns-3)

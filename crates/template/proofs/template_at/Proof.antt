@@ -1,5 +1,5 @@
 -- Each test decides as Temp says, in its order.
-use mathlib.Core.Path.{refl, ap, sym, _∙_}
+use mathlib.Core.Path.{ap, sym, _∙_}
 use native.Mathlib.Omega.{arith}
 use borrow.Author.Needs.{needs}
 use Rattle.format.specs.Template.{templateRead}
@@ -10,8 +10,11 @@ use Rattle.template.proofs.template_at.Tie as tie
 sub-have : tie.Need-sub-have
 sub-have c = search needs
 
+truncated-requires : tie.Need-truncated-requires
+truncated-requires c κs = search needs
+
 returns : tie.Need-returns
-returns c = refuses _ _ _ _ refl (template-cut _ _ _ (omega arith))
+returns c = refuses _ _ _ _ (c .truncated .ensures) (template-cut _ _ _ (omega arith))
 
 word-requires : tie.Need-word-requires
 word-requires c κs = search needs
@@ -61,6 +64,7 @@ template-at-spec =
     tie.close
     (tie.spec
     sub-have
+    truncated-requires
     returns
     word-requires
     wrong-signature-requires
