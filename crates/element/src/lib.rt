@@ -77,11 +77,7 @@ fn check_unknown(b: &[u8], at: usize) -> EntriesRead
     }
     let end = at + blob::word(b, at + 4) as usize;
     if b.len() < end {
-        return EntriesRead::Refused(bounds::offset_out(
-            b.len(),
-            UNKNOWN_ELEMENT_END,
-            in_word(end),
-        ));
+        return EntriesRead::Refused(bounds::offset_out(b.len(), UNKNOWN_ELEMENT_END, in_word(end)));
     }
     EntriesRead::Entries(0)
 }

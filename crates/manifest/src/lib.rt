@@ -113,12 +113,7 @@ fn check_block(b: &[u8], h: CrimHeader) -> Needed
 {
     let bytes = 20 * (h.count as usize);
     if b.len() - 16 < bytes {
-        return refused(bounds::truncated(
-            b.len(),
-            CRIM_PROVIDER_DESCRIPTOR_ARRAY,
-            16,
-            bytes,
-        ));
+        return refused(bounds::truncated(b.len(), CRIM_PROVIDER_DESCRIPTOR_ARRAY, 16, bytes));
     }
     check(b, h.count)
 }
