@@ -6,7 +6,7 @@ ghost use lib.ListN.{length};
 ghost use Rattle.blob.specs.Reading.{run, got, verdict};
 ghost use Rattle.format.specs.Refuse as refuse;
 ghost use Rattle.format.specs.Region as region;
-ghost use Rattle.format.specs.Answer.{capped};
+ghost use Rattle.format.specs.Answer as answer;
 use blob::Refusal;
 use blob::Verdict;
 use format::EndRead;
@@ -89,6 +89,19 @@ pub fn not_utf16(field: u8, at: usize) -> Refusal
     }
 }
 
+// A refusal of the port's own.
+pub fn own(code: u8) -> Refusal
+    ensures { λ r. ⌜ r ≡ answer.own code ⌝ }
+{
+    Refusal {
+        code,
+        field: 0,
+        place: 0,
+        first: 0,
+        second: 0,
+    }
+}
+
 // Whether so many bytes from a place on are in the blob. No sum is made of the two numbers, so none can wrap.
 fn has_room(b: &[u8], at: usize, needed: usize) -> bool
     ensures { λ r. ⌜ r ≡ leb (at + needed) (length (now (b .entry))) ⌝ }
@@ -139,7 +152,7 @@ pub fn region_end(b: &[u8], field: u8, at: usize, size: u32, least: u32) -> EndR
 // So many entries and some more, as far as anyone asks.
 pub fn sum(entries: u32, more: u32) -> u32
     requires { ⌜ entries ≤ 65537 ⌝ }
-    ensures { λ r. ⌜ r ≡ capped (entries + more) ⌝ }
+    ensures { λ r. ⌜ r ≡ answer.capped (entries + more) ⌝ }
 {
     if 65537 - entries < more {
         return 65537;
