@@ -88,7 +88,7 @@ has-two i x y e h =
     rw (drop-cons e i 0 g, drop-cons e (suc i) 0 h) (ap (λ t. eqb (wordOf i e) x && t) (and-true (eqb (wordOf (suc i) e) y)))
 
 -- what was found tells the list
-abbrev told : Found → List ℕ
+abbrev pub told : Found → List ℕ
 told founds.Nothing = []
 told (founds.Number n) = n ∷ []
 
@@ -114,6 +114,16 @@ position-found p k (x ∷ es) n e = go (p x) e (position-found p (suc k) es n)
         → (choose t (k ∷ []) (position p (suc k) es) ≡ n ∷ []) × (k ≤ n) × (n < k + suc (length es))
     go true e ih = let q = same-found k n e in (ap told e, omega arith, omega arith)
     go false e ih = let h = ih e in (h .0, omega arith, omega arith)
+
+pub position-single : (p : Entry → Bool) (k : ℕ) (es : List Entry) → position p k es ≡ told (found (position p k es))
+unfolding position
+position-single p k [] = refl
+position-single p k (x ∷ es) = go (p x) (position-single p (suc k) es)
+  where
+    go : (t : Bool) → position p (suc k) es ≡ told (found (position p (suc k) es))
+        → choose t (k ∷ []) (position p (suc k) es) ≡ told (found (choose t (k ∷ []) (position p (suc k) es)))
+    go true ih = refl
+    go false ih = ih
 
 -- the first entry that a test picks is the one at the number that it finds; it picks none where it finds none
 pub select-found : (p : Entry → Bool) (k : ℕ) (es : List Entry) (n : ℕ) → found (position p k es) ≡ founds.Number n → take 1 (select p es) ≡ getD es (n - k) [] ∷ []

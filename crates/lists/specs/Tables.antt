@@ -80,17 +80,19 @@ module _ (words capacities counts : List ℕ) (l kind : ℕ) (k : kindList kind 
   pub record Owned (ts : List Entry) : Type 0 where
     pub equal : flat (λ t. take (wordOf TABLE-COUNT t) (drop (wordOf TABLE-FIRST t) (entriesOf words capacities counts l))) ts
         ≡ entries (width l) (rangeIn (areas rows (take (place l) capacities)) ts) words
+    pub begins : rangeIn (areas rows (take (place l) capacities)) ts .start ≡ areas rows (take (place l) capacities)
     pub within : rangeIn (areas rows (take (place l) capacities)) ts .first + rangeIn (areas rows (take (place l) capacities)) ts .count ≤ of l counts
 
   none-owned : Owned []
   unfolding flat entriesFrom
-  none-owned = record { equal = refl; within = omega arith }
+  none-owned = record { equal = refl; begins = refl; within = omega arith }
 
   one-owned : (t : Entry) → wordOf TABLE-FIRST t + wordOf TABLE-COUNT t ≤ of l counts → Owned (t ∷ [])
   unfolding flat
   one-owned t h =
       record {
         equal = append-nil _ ∙ part-entries (width l) words (wordOf TABLE-FIRST t) (wordOf TABLE-COUNT t) (of l counts) (areas rows (take (place l) capacities)) h;
+        begins = refl;
         within = h;
       }
 

@@ -1,21 +1,19 @@
 -- The GUID is four words.
-use Prim.Native.Nat.{ℕ, _+_, _-_, _*_}
+use Prim.Native.Nat.{_+_, _-_}
+use mathlib.Core.Path.{_≡_, ap₂, _∙_}
 use lib.ListN.{take, drop}
-use Rattle.lookup.specs.Found.{markedFrom}
-use mathlib.Core.Path.{_≡_, ap, _∙_}
-use native.Mathlib.Omega.{arith}
+use Rattle.format.specs.Entry.{GUID, TEMPLATE-GUID}
+use Rattle.lookup.specs.Given.{markedFrom}
 use borrow.Author.Needs.{needs}
+use native.Mathlib.Omega.{arith}
 use Rattle.lookup.proofs.mark.Statement.{statement}
 use Rattle.lookup.proofs.mark.Tie as tie
 
-mul-from : tie.Need-mul-from
-mul-from c = search needs
+entry-at-requires : tie.Need-entry-at-requires
+entry-at-requires c κs = search needs
 
 add-from : tie.Need-add-from
 add-from c = search needs
-
-add-from-2 : tie.Need-add-from-2
-add-from-2 c = search needs
 
 add-to : tie.Need-add-to
 add-to c = search needs
@@ -37,18 +35,19 @@ mark-all-requires c κs = search needs
 
 returns : tie.Need-returns
 returns c =
-    let a = c .before .before .before .before .before .args in
-    let f = a .templates .at + 12 * a .n + 6 in
-    let e : (f + 4) - f ≡ 4 = omega arith in
-    c .mark-all .ensures ∙ ap (λ (m : ℕ). markedFrom (a .words .now) (take m (drop f (a .words .now))) 0 (a .templates .count) (a .templates .at) (a .marks .now)) e
+    let n = c .before .before .before in
+    let a = n .before .before .args in
+    let f = n .entry-at .result + TEMPLATE-GUID in
+    let e : (f + GUID) - f ≡ GUID = omega arith in
+    c .mark-all .ensures
+    ∙ ap₂ (λ m g. markedFrom (a .words .now) (take m (drop (g + TEMPLATE-GUID) (a .words .now))) 0 (a .list .count) (a .list .start) (a .marks .now)) e (n .entry-at .ensures)
 
 pub mark-spec : {M : Type 1} → statement M
 mark-spec =
     tie.close
     (tie.spec
-    mul-from
+    entry-at-requires
     add-from
-    add-from-2
     add-to
     mul-mark-all
     sub-mark-all

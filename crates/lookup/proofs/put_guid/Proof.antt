@@ -1,57 +1,37 @@
--- Four words in a row.
-use Prim.Native.Nat.{_+_, _*_}
+-- Four words of the entry.
+use Prim.Native.Nat.{_+_, _-_}
+use mathlib.Core.Path.{_≡_, ap, ap₂, _∙_}
+use lib.ListN.{take, drop}
 use Rattle.blob.specs.Laid.{laid}
-use Rattle.lookup.specs.Entries.{four-words}
-use mathlib.Core.Path.{ap, _∙_}
-use native.Mathlib.Omega.{arith}
+use Rattle.format.specs.Entry.{GUID, TEMPLATE-GUID}
 use borrow.Author.Needs.{needs}
+use native.Mathlib.Omega.{arith}
 use Rattle.lookup.proofs.put_guid.Statement.{statement}
 use Rattle.lookup.proofs.put_guid.Tie as tie
 
-mul-at : tie.Need-mul-at
-mul-at c = search needs
+entry-at-requires : tie.Need-entry-at-requires
+entry-at-requires c κs = search needs
 
-add-at : tie.Need-add-at
-add-at c = search needs
+add-from : tie.Need-add-from
+add-from c = search needs
 
-add-at-2 : tie.Need-add-at-2
-add-at-2 c = search needs
+add-end : tie.Need-add-end
+add-end c = search needs
 
-mul-put-four : tie.Need-mul-put-four
-mul-put-four c = search needs
+mul-put : tie.Need-mul-put
+mul-put c = search needs
 
-shared-slice-read-put-four : tie.Need-shared-slice-read-put-four
-shared-slice-read-put-four c = search needs
+sub-put : tie.Need-sub-put
+sub-put c = search needs
 
-add-put-four : tie.Need-add-put-four
-add-put-four c = search needs
+part-put-start : tie.Need-part-put-start
+part-put-start c = search needs
 
-mul-put-four-2 : tie.Need-mul-put-four-2
-mul-put-four-2 c = search needs
+part-put-end : tie.Need-part-put-end
+part-put-end c = search needs
 
-shared-slice-read-put-four-2 : tie.Need-shared-slice-read-put-four-2
-shared-slice-read-put-four-2 c = search needs
-
-add-put-four-2 : tie.Need-add-put-four-2
-add-put-four-2 c = search needs
-
-mul-put-four-3 : tie.Need-mul-put-four-3
-mul-put-four-3 c = search needs
-
-shared-slice-read-put-four-3 : tie.Need-shared-slice-read-put-four-3
-shared-slice-read-put-four-3 c = search needs
-
-add-put-four-3 : tie.Need-add-put-four-3
-add-put-four-3 c = search needs
-
-mul-put-four-4 : tie.Need-mul-put-four-4
-mul-put-four-4 c = search needs
-
-shared-slice-read-put-four-4 : tie.Need-shared-slice-read-put-four-4
-shared-slice-read-put-four-4 c = search needs
-
-put-four-requires : tie.Need-put-four-requires
-put-four-requires c κs = search needs
+put-requires : tie.Need-put-requires
+put-requires c κs = search needs
 
 same-length : tie.Need-same-length
 same-length c = search needs
@@ -59,28 +39,23 @@ same-length c = search needs
 returns : tie.Need-returns
 returns c =
     let p = c .before .before in
-    let o = p .before .before .before .before .before .before .before .before .before in
-    let a = o .args in
-    p .put-four .ensures ∙ ap (laid (a .guids .now) (a .to)) (four-words (a .words .now) (a .templates .at + 12 * a .n + 6) (omega (arith, o .pre)))
+    let n = p .before .before .before in
+    let a = n .before .before .before .args in
+    let f = n .entry-at .result + TEMPLATE-GUID in
+    let e : (f + GUID) - f ≡ GUID = omega arith in
+    p .put .ensures ∙ ap₂ (λ m g. laid (a .guids .now) (a .to) (take m (drop (g + TEMPLATE-GUID) (a .words .now)))) e (n .entry-at .ensures)
 
 pub put-guid-spec : {M : Type 1} → statement M
 put-guid-spec =
     tie.close
     (tie.spec
-    mul-at
-    add-at
-    add-at-2
-    mul-put-four
-    shared-slice-read-put-four
-    add-put-four
-    mul-put-four-2
-    shared-slice-read-put-four-2
-    add-put-four-2
-    mul-put-four-3
-    shared-slice-read-put-four-3
-    add-put-four-3
-    mul-put-four-4
-    shared-slice-read-put-four-4
-    put-four-requires
+    entry-at-requires
+    add-from
+    add-end
+    mul-put
+    sub-put
+    part-put-start
+    part-put-end
+    put-requires
     same-length
     returns)
