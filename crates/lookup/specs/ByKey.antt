@@ -19,11 +19,12 @@ use Rattle.format.specs.Lookup.{entriesOf, wordOf, select, position, counts-fit
 use Rattle.format.specs.declared.GuidsFound.the-variants as guids
 use Rattle.format.specs.declared.Key.{Key}
 use Rattle.lists.specs.declared.Found.the-variants as founds
+use Rattle.lists.specs.declared.Run.{Run}
 use Rattle.lists.specs.Fit.{refused-as, inside, whole-entries}
 use Rattle.lists.specs.Found.{entries, few, runOf, has, found, fitTogether, Fit, owned}
 use Rattle.lists.specs.Search.{and-true, none-found, position-found}
 use Rattle.lists.specs.Tables.{owned-entries}
-use Rattle.lookup.specs.Given.{Part, guidsOwned, roomFor}
+use Rattle.lookup.specs.Given.{Part, guidsBy, guidsOwned, roomFor}
 use Rattle.lookup.specs.Once.{given-once}
 
 and-false : (b : Bool) → (b && false) ≡ false
@@ -61,6 +62,9 @@ module _ (words capacities counts : List ℕ) (f : Fit words capacities counts) 
         let o = owned-entries words capacities counts TEMPLATES TTBL refl p (entriesOf words capacities counts TABLES) t in
         (inside words capacities counts f (place TEMPLATES), o .begins, o .within)
 
+    pub part-in : (list templates : Run) → list ≡ runOf capacities counts (place TEMPLATES) → templates ≡ owned words capacities counts p TTBL → Part list templates words
+    part-in list templates g h = rw (g, h) templates-in
+
   module _ (key : Key) where
     abbrev searched : List ℕ
     searched = position (has 0 (guidWords (key .guid))) 0 (entries (width PROVIDERS) (runOf capacities counts (place PROVIDERS)) words)
@@ -82,6 +86,14 @@ module _ (words capacities counts : List ℕ) (f : Fit words capacities counts) 
     pub key-none : found searched ≡ founds.Nothing → guidsOf words capacities counts key ≡ []
     unfolding guidsOf flat
     key-none e = rw (sym providers ∙ none-found searched e)
+
+-- by the runs that were found
+pub owned-given : (words capacities counts : List ℕ) (p : ℕ) (key : Key) (list templates events : Run) → list ≡ runOf capacities counts (place TEMPLATES)
+    → templates ≡ owned words capacities counts p TTBL → events ≡ owned words capacities counts p EVNT
+    → guidsBy words list templates (keyWords key) events ≡ guidsOwned words capacities counts p key
+owned-given words capacities counts p key list templates events g h e =
+    ap (λ l. guidsBy words l templates (keyWords key) events) g
+    ∙ ap₂ (λ t v. guidsBy words (runOf capacities counts (place TEMPLATES)) t (keyWords key) v) h e
 
 -- where nothing is given, there is room
 pub room-none : (lent : List ℕ) (gs : List Entry) → gs ≡ [] → (guids.Given 0 ≡ guidsFound (roomFor lent gs)) × (lent ≡ guidsHeld lent (roomFor lent gs))

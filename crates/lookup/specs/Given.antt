@@ -1,7 +1,7 @@
 -- What the code speaks of: the templates that events give, each GUID once. Templates have their numbers in list 9, whatever provider has
 -- them, and what was given is marked by these.
 use Prim.{Unit}
-use Prim.Native.Nat.{ℕ, zero, suc, _+_, _*_, _-_, _/_, _≤_, _<_}
+use Prim.Native.Nat.{ℕ, zero, suc, _+_, _*_, _-_, _/_, _≤_, _<_, min}
 use mathlib.Core.Path.{_≡_, refl, ap, ap₂, sym, _∙_}
 use mathlib.Core.Bool.{Bool, true, false, not, _&&_}
 use mathlib.Core.List.{List, [], _∷_, _++_, map}
@@ -9,7 +9,7 @@ use native.Mathlib.Omega.{arith}
 use lib.ListN.{length, getD, take, drop, set, length-take, length-drop, length-map, replicate}
 use lib.Seq.{take-take}
 use lib.Dec.{eqb, leb}
-use borrow.Author.Tests.{eq-eqb, ne-eqb, le-leb, lt-leb, leb-false}
+use borrow.Author.Tests.{eq-eqb, ne-eqb, le-leb, lt-leb}
 use Rattle.blob.specs.Reading.{Outcome, done, refused, choose}
 use Rattle.blob.specs.Laid.{laid, laid-more, flat, flat-map}
 use Rattle.format.specs.Area.{EVENTS, TEMPLATES, place, width}
@@ -64,22 +64,21 @@ abbrev pub unmarked : List Bool → Found → Found
 unmarked marks founds.Nothing = founds.Nothing
 unmarked marks (founds.Number n) = choose (getD marks n false) founds.Nothing (founds.Number n)
 
--- marks, with one set where some words stand at a place; with those set of some templates that have a GUID; of all in list 9 that have
--- the GUID of one of them
-abbrev pub markedOne : List ℕ → List ℕ → ℕ → ℕ → List Bool → List Bool
-markedOne words guid at i marks = choose (alike (take (length guid) (drop at words)) guid) (set marks i true) marks
+-- a mark, with some words at a place that are a GUID that is given; marks of some templates, so; and of all in list 9
+abbrev pub markOf : List ℕ → List ℕ → ℕ → ℕ → List Bool → Bool
+markOf words guid at i marks = choose (alike (take (length guid) (drop at words)) guid) true (getD marks i false)
 
 unfoldable pub markedFrom : List ℕ → List ℕ → ℕ → ℕ → ℕ → List Bool → List Bool
 markedFrom words guid i zero at marks = marks
-markedFrom words guid i (suc n) at marks = markedFrom words guid (i + 1) n (at + width TEMPLATES) (markedOne words guid (at + TEMPLATE-GUID) i marks)
+markedFrom words guid i (suc n) at marks = markedFrom words guid (i + 1) n (at + width TEMPLATES) (set marks i (markOf words guid (at + TEMPLATE-GUID) i marks))
 
-abbrev pub marked : List ℕ → Run → ℕ → List Bool → List Bool
-marked words list n marks = markedFrom words (guidOf words list n) 0 (list .count) (list .start) marks
+abbrev pub marked : List ℕ → Run → List ℕ → List Bool → List Bool
+marked words list guid marks = markedFrom words guid 0 (list .count) (list .start) marks
 
 -- of some templates, those whose GUID was not marked, nor given by one before
 unfoldable pub firsts : List ℕ → Run → List Bool → List ℕ → List ℕ
 firsts words list marks [] = []
-firsts words list marks (n ∷ ns) = choose (getD marks n false) (firsts words list marks ns) (n ∷ firsts words list (marked words list n marks) ns)
+firsts words list marks (n ∷ ns) = choose (getD marks n false) (firsts words list marks ns) (n ∷ firsts words list (marked words list (guidOf words list n) marks) ns)
 
 abbrev pub unset : List Bool
 unset = replicate 65536 false
@@ -106,10 +105,6 @@ abbrev pub behind : Run → Run → Next → Type 0
 behind events list nexts.Over = Unit
 behind events list (nexts.Template n rest) =
     (n < list .count) × (rest .count < events .count) × (rest .start ≡ events .start) × (rest .first + rest .count ≡ events .first + events .count)
-
--- a number, or one more than the most that is asked for
-abbrev pub upTo : ℕ → ℕ → ℕ
-upTo most n = choose (leb n most) n (most + 1)
 
 -- GUIDs, where a lent list has room for them; else 9
 abbrev pub roomFor : List ℕ → List Entry → Outcome (List Entry)
@@ -150,7 +145,7 @@ module _ (words : List ℕ) (templates : Run) (key : List ℕ) (e : Entry) where
 
 -- Of templates that are marked, those that are left decide.
 module _ (words guid : List ℕ) (i left at : ℕ) (marks : List Bool) where
-  pub marked-more : 0 < left → (marks' : List Bool) → marks' ≡ markedOne words guid (at + TEMPLATE-GUID) i marks
+  pub marked-more : 0 < left → (marks' : List Bool) → marks' ≡ set marks i (markOf words guid (at + TEMPLATE-GUID) i marks)
       → markedFrom words guid i left at marks ≡ markedFrom words guid (i + 1) (left - 1) (at + width TEMPLATES) marks'
   unfolding markedFrom
   marked-more h marks' e =
@@ -169,21 +164,21 @@ module _ (words : List ℕ) (list : Run) (marks : List Bool) where
   skip (founds.Number m) rest e = go (getD marks m false) e
     where
       go : (t : Bool) → choose t founds.Nothing (founds.Number m) ≡ founds.Nothing
-          → choose t (firsts words list marks rest) (m ∷ firsts words list (marked words list m marks) rest) ≡ firsts words list marks rest
+          → choose t (firsts words list marks rest) (m ∷ firsts words list (marked words list (guidOf words list m) marks) rest) ≡ firsts words list marks rest
       go true e = refl
       go false e = absurd (nothing-found m (sym e))
 
   give : (f : Found) (rest : List ℕ) (n : ℕ) → unmarked marks f ≡ founds.Number n
-      → (firsts words list marks (single f ++ rest) ≡ n ∷ firsts words list (marked words list n marks) rest) × (f ≡ founds.Number n)
+      → (firsts words list marks (single f ++ rest) ≡ n ∷ firsts words list (marked words list (guidOf words list n) marks) rest) × (f ≡ founds.Number n)
   unfolding firsts
   give founds.Nothing rest n e = absurd (nothing-found n e)
   give (founds.Number m) rest n e = go (getD marks m false) e
     where
       go : (t : Bool) → choose t founds.Nothing (founds.Number m) ≡ founds.Number n
-          → (choose t (firsts words list marks rest) (m ∷ firsts words list (marked words list m marks) rest) ≡ n ∷ firsts words list (marked words list n marks) rest)
+          → (choose t (firsts words list marks rest) (m ∷ firsts words list (marked words list (guidOf words list m) marks) rest) ≡ n ∷ firsts words list (marked words list (guidOf words list n) marks) rest)
           × (founds.Number m ≡ founds.Number n)
       go true e = absurd (nothing-found n e)
-      go false e = (ap (λ k. k ∷ firsts words list (marked words list k marks) rest) (same-found m n e), e)
+      go false e = (ap (λ k. k ∷ firsts words list (marked words list (guidOf words list k) marks) rest) (same-found m n e), e)
 
 module _ (words : List ℕ) (list templates : Run) (key : List ℕ) (marks : List Bool) (start first left at : ℕ) (h : 0 < left) (a : at ≡ start + width EVENTS * first) where
   numbers-more : numbers words templates key (record { start = start; first = first; count = left })
@@ -201,7 +196,7 @@ module _ (words : List ℕ) (list templates : Run) (key : List ℕ) (marks : Lis
       ≡ firsts words list marks (numbers words templates key (record { start = start; first = first + 1; count = left - 1 }))
   next-skip e = ap (firsts words list marks) numbers-more ∙ skip words list marks (found (numberAt words templates key at)) _ e
 
-  pub next-give : (n : ℕ) (marks' : List Bool) → unmarked marks (found (numberAt words templates key at)) ≡ founds.Number n → marks' ≡ marked words list n marks
+  pub next-give : (n : ℕ) (marks' : List Bool) → unmarked marks (found (numberAt words templates key at)) ≡ founds.Number n → marks' ≡ marked words list (guidOf words list n) marks
       → firsts words list marks (numbers words templates key (record { start = start; first = first; count = left }))
       ≡ n ∷ firsts words list marks' (numbers words templates key (record { start = start; first = first + 1; count = left - 1 }))
   next-give n marks' e m =
@@ -218,13 +213,6 @@ pub next-none : (words : List ℕ) (list templates : Run) (key : List ℕ) (mark
     → firsts words list marks (numbers words templates key (record { start = start; first = first; count = left })) ≡ []
 unfolding firsts entriesFrom flat
 next-none words list templates key marks start first left h = let m : left ≡ 0 = omega arith in rw m
-
--- a number that was counted whole, and one that was not
-pub upTo-all : (most n total : ℕ) → total ≡ n → n ≤ most → n ≡ upTo most total
-upTo-all most n total e h = rw (e, le-leb n most h)
-
-pub upTo-more : (most n total : ℕ) → most < n → n ≤ most + 1 → n ≤ total → n ≡ upTo most total
-upTo-more most n total h g k = let e : most < total = omega arith in rw (lt-leb total most e) (omega arith)
 
 -- Of GUIDs that are stored, those that are left decide.
 module _ (G : ℕ → List ℕ) (guids : List ℕ) (to : ℕ) (ns : List ℕ) where
@@ -245,37 +233,21 @@ guid-length words list n f h = simp (length-take, length-drop) (omega (arith, f)
 
 -- What is given, by the number that was counted: too many for the lent list, or all.
 module _ (words : List ℕ) (list templates : Run) (key : List ℕ) (events : Run) (lent : List ℕ) (n : ℕ)
-    (e : n ≡ upTo (length lent / GUID) (length (givenBy words list templates key events))) where
+    (e : n ≡ min (length (givenBy words list templates key events)) (length lent / GUID + 1)) where
   counted : length (guidsBy words list templates key events) ≡ length (givenBy words list templates key events)
   counted = length-map (givenBy words list templates key events) (guidOf words list)
 
-  over : (most total : ℕ) → most < upTo most total → most < total
-  over most total h = go (leb total most) refl h
-    where
-      go : (t : Bool) → leb total most ≡ t → most < choose t total (most + 1) → most < total
-      go true b h = h
-      go false b h = leb-false total most b
-
-  within : (most total : ℕ) → upTo most total ≤ most → (upTo most total ≡ total) × (total ≤ most)
-  within most total h = go (leb total most) refl h
-    where
-      go : (t : Bool) → leb total most ≡ t → choose t total (most + 1) ≤ most → (choose t total (most + 1) ≡ total) × (total ≤ most)
-      go true b h = (refl, h)
-      go false b h = absurd (omega arith)
-
   pub give-short : length lent / GUID < n → roomFor lent (guidsBy words list templates key events) ≡ refused (too-small 11 (length lent / GUID))
   give-short h =
-      let o = over (length lent / GUID) (length (givenBy words list templates key events)) (rw e at h) in
-      let l : length lent / GUID < length (guidsBy words list templates key events) = omega (arith, counted, o) in
+      let l : length lent / GUID < length (guidsBy words list templates key events) = omega (arith, counted) in
       rw (lt-leb _ _ l)
 
   pub give-all : n ≤ length lent / GUID
       → (roomFor lent (guidsBy words list templates key events) ≡ done (guidsBy words list templates key events))
       × (n ≡ length (guidsBy words list templates key events)) × (GUID * length (givenBy words list templates key events) ≤ length lent)
   give-all h =
-      let w = within (length lent / GUID) (length (givenBy words list templates key events)) (rw e at h) in
-      let l : length (guidsBy words list templates key events) ≤ length lent / GUID = omega (arith, counted, w .1) in
-      (rw (le-leb _ _ l), e ∙ w .0 ∙ sym counted, omega (arith, w .1))
+      let l : length (guidsBy words list templates key events) ≤ length lent / GUID = omega (arith, counted) in
+      (rw (le-leb _ _ l), omega (arith, counted), omega arith)
 
 -- the words of GUIDs that are stored one by one
 pub stored-guids : (words : List ℕ) (list : Run) (ns : List ℕ) → flat (guidOf words list) ns ≡ flat (λ g. g) (map (guidOf words list) ns)

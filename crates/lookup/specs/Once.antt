@@ -24,55 +24,32 @@ use Rattle.lists.specs.declared.Run.{Run}
 use Rattle.lists.specs.Entries.{entries-length, entry, some-of}
 use Rattle.lists.specs.Found.{entries, found, lowest}
 use Rattle.lists.specs.Search.{told, position-found, position-single, select-found, select-none}
-use Rattle.lookup.specs.Given.{Listed, Part, guidOf, numberOf, markedOne, markedFrom, marked, numbers, firsts, unset, givenBy, number-single, number-below, guid-length}
+use Rattle.lookup.specs.Given.{Listed, Part, guidOf, numberOf, markOf, markedFrom, marked, numbers, firsts, unset, givenBy, number-single, number-below, guid-length}
 
+-- a mark is set where the GUID stands, and no other one is touched
 module _ (words guid : List ℕ) where
-  -- a mark is set where the GUID stands, and no other one is touched
-  one-length : (at i : ℕ) (marks : List Bool) → length (markedOne words guid at i marks) ≡ length marks
-  one-length at i marks = go (alike (take (length guid) (drop at words)) guid)
-    where
-      go : (t : Bool) → length (choose t (set marks i true) marks) ≡ length marks
-      go true = length-set marks i true
-      go false = refl
-
-  one-here : (at i : ℕ) (marks : List Bool) → i < length marks
-      → getD (markedOne words guid at i marks) i false ≡ choose (alike (take (length guid) (drop at words)) guid) true (getD marks i false)
-  one-here at i marks h = go (alike (take (length guid) (drop at words)) guid)
-    where
-      go : (t : Bool) → getD (choose t (set marks i true) marks) i false ≡ choose t true (getD marks i false)
-      go true = getD-set-same marks i true false h
-      go false = refl
-
-  one-other : (at i j : ℕ) (marks : List Bool) → (j ≡ i → ⊥) → getD (markedOne words guid at i marks) j false ≡ getD marks j false
-  one-other at i j marks h = go (alike (take (length guid) (drop at words)) guid)
-    where
-      go : (t : Bool) → getD (choose t (set marks i true) marks) j false ≡ getD marks j false
-      go true = getD-set-other marks i j true false h
-      go false = refl
-
-  -- so of all of them
   marked-length : (i n at : ℕ) (marks : List Bool) → length (markedFrom words guid i n at marks) ≡ length marks
   unfolding markedFrom
   marked-length i zero at marks = refl
-  marked-length i (suc n) at marks = marked-length (i + 1) n (at + width TEMPLATES) _ ∙ one-length (at + TEMPLATE-GUID) i marks
+  marked-length i (suc n) at marks = marked-length (i + 1) n (at + width TEMPLATES) _ ∙ length-set marks i _
 
   marked-before : (i n at j : ℕ) (marks : List Bool) → j < i → getD (markedFrom words guid i n at marks) j false ≡ getD marks j false
   unfolding markedFrom
   marked-before i zero at j marks h = refl
-  marked-before i (suc n) at j marks h = marked-before (i + 1) n (at + width TEMPLATES) j _ (omega arith) ∙ one-other (at + TEMPLATE-GUID) i j marks (λ e. omega arith)
+  marked-before i (suc n) at j marks h = marked-before (i + 1) n (at + width TEMPLATES) j _ (omega arith) ∙ getD-set-other marks i j _ false (λ e. omega arith)
 
   marked-at : (i n at k : ℕ) (marks : List Bool) → k < n → i + n ≤ length marks
-      → getD (markedFrom words guid i n at marks) (i + k) false ≡ choose (alike (take (length guid) (drop (at + width TEMPLATES * k + TEMPLATE-GUID) words)) guid) true (getD marks (i + k) false)
+      → getD (markedFrom words guid i n at marks) (i + k) false ≡ markOf words guid (at + width TEMPLATES * k + TEMPLATE-GUID) (i + k) marks
   unfolding markedFrom
   marked-at i zero at k marks h g = absurd (omega arith)
-  marked-at i (suc n) at zero marks h g = simp (mul-zero, add-zero) (marked-before (i + 1) n (at + width TEMPLATES) i _ (omega arith) ∙ one-here (at + TEMPLATE-GUID) i marks (omega arith))
+  marked-at i (suc n) at zero marks h g = simp (mul-zero, add-zero) (marked-before (i + 1) n (at + width TEMPLATES) i _ (omega arith) ∙ getD-set-same marks i _ false (omega arith))
   marked-at i (suc n) at (suc k) marks h g =
       let p : i + suc k ≡ (i + 1) + k = omega arith in
       let q : at + width TEMPLATES * suc k + TEMPLATE-GUID ≡ (at + width TEMPLATES) + width TEMPLATES * k + TEMPLATE-GUID = omega arith in
-      let l : (i + 1) + n ≤ length (markedOne words guid (at + TEMPLATE-GUID) i marks) = omega (arith, one-length (at + TEMPLATE-GUID) i marks) in
+      let marks' = set marks i (markOf words guid (at + TEMPLATE-GUID) i marks) in
       rw (p, q)
-      (marked-at (i + 1) n (at + width TEMPLATES) k (markedOne words guid (at + TEMPLATE-GUID) i marks) (omega arith) l
-      ∙ ap (choose (alike (take (length guid) (drop ((at + width TEMPLATES) + width TEMPLATES * k + TEMPLATE-GUID) words)) guid) true) (one-other (at + TEMPLATE-GUID) i ((i + 1) + k) marks (λ e. omega arith)))
+      (marked-at (i + 1) n (at + width TEMPLATES) k marks' (omega arith) (omega (arith, length-set marks i (markOf words guid (at + TEMPLATE-GUID) i marks)))
+      ∙ ap (choose (alike (take (length guid) (drop ((at + width TEMPLATES) + width TEMPLATES * k + TEMPLATE-GUID) words)) guid) true) (getD-set-other marks i ((i + 1) + k) _ false (λ e. omega arith)))
 
 -- The invariant of the marks: a template of list 9 is marked exactly where its GUID was seen.
 abbrev Marks : List ℕ → Run → List Bool → List Entry → Type 0
@@ -80,7 +57,7 @@ Marks words list marks seen = (list .count ≤ length marks) × ((n : ℕ) → n
 
 module _ (words : List ℕ) (list : Run) (f : Listed list words) where
   -- with a GUID given, the marks are of one more
-  marked-seen : (marks : List Bool) (seen : List Entry) (n : ℕ) → Marks words list marks seen → n < list .count → Marks words list (marked words list n marks) (guidOf words list n ∷ seen)
+  marked-seen : (marks : List Bool) (seen : List Entry) (n : ℕ) → Marks words list marks seen → n < list .count → Marks words list (marked words list (guidOf words list n) marks) (guidOf words list n ∷ seen)
   unfolding among
   marked-seen marks seen n m h =
       let g = guidOf words list n in (
@@ -98,11 +75,11 @@ module _ (words : List ℕ) (list : Run) (f : Listed list words) where
   firsts-once marks seen (n ∷ ns) m b =
       rw (← m .1 n (b .0))
       (go (getD marks n false) (firsts-once marks seen ns m (b .1))
-      (firsts-once (marked words list n marks) (guidOf words list n ∷ seen) ns (marked-seen marks seen n m (b .0)) (b .1)))
+      (firsts-once (marked words list (guidOf words list n) marks) (guidOf words list n ∷ seen) ns (marked-seen marks seen n m (b .0)) (b .1)))
     where
       go : (t : Bool) → map (guidOf words list) (firsts words list marks ns) ≡ once seen (map (guidOf words list) ns)
-          → map (guidOf words list) (firsts words list (marked words list n marks) ns) ≡ once (guidOf words list n ∷ seen) (map (guidOf words list) ns)
-          → map (guidOf words list) (choose t (firsts words list marks ns) (n ∷ firsts words list (marked words list n marks) ns))
+          → map (guidOf words list) (firsts words list (marked words list (guidOf words list n) marks) ns) ≡ once (guidOf words list n ∷ seen) (map (guidOf words list) ns)
+          → map (guidOf words list) (choose t (firsts words list marks ns) (n ∷ firsts words list (marked words list (guidOf words list n) marks) ns))
           ≡ choose t (once seen (map (guidOf words list) ns)) (guidOf words list n ∷ once (guidOf words list n ∷ seen) (map (guidOf words list) ns))
       go true a b = a
       go false a b = ap (λ (gs : List Entry). guidOf words list n ∷ gs) b

@@ -1,8 +1,9 @@
 // Finding a template in the lists of a reading: by its offset, or by an event's key. Nothing is kept but a mark for each template.
 ghost use mathlib.Core.Path.{_≡_};
 ghost use mathlib.Core.Bool.{true};
-ghost use Prim.Native.Nat.{_+_, _*_, _/_, _≤_, _<_};
+ghost use Prim.Native.Nat.{_+_, _*_, _/_, _≤_, _<_, min};
 ghost use lib.ListN.{length};
+ghost use Rattle.blob.specs.Reading.{choose};
 ghost use Rattle.blob.specs.Laid.{laid, flat};
 ghost use Rattle.format.specs.Area as area;
 ghost use Rattle.format.specs.Entry as entry;
@@ -66,11 +67,12 @@ pub fn template_at(
     shown(lists::at_offset(words, range, offset))
 }
 
-// The number of the template that an event gives: of the lowest at its offset, where its key is equal and it has an offset.
-fn template_of(words: &[u32], at: usize, templates: Run, key: &[u32]) -> Found
+// The number of the template that an event gives, where its GUID was not given before: of the lowest at the event's offset, where its key
+// is equal and it has an offset.
+fn fresh(words: &[u32], at: usize, templates: Run, key: &[u32], marks: &[bool; 65536]) -> Found
     requires { ⌜ (at + area.width area.EVENTS ≤ length (now words)) × (length (now key) ≡ entry.KEY) ⌝ }
     requires { ⌜ lists.few (area.width area.TEMPLATES) templates (now words) ⌝ }
-    ensures { λ r. ⌜ r ≡ lists.found (spec.numberAt (now (words .entry)) templates (now (key .entry)) at) ⌝ }
+    ensures { λ r. ⌜ r ≡ spec.unmarked (now (marks .entry)) (lists.found (spec.numberAt (now (words .entry)) templates (now (key .entry)) at)) ⌝ }
 {
     if !lists::same(words, at, key) {
         return Found::Nothing;
@@ -79,16 +81,7 @@ fn template_of(words: &[u32], at: usize, templates: Run, key: &[u32]) -> Found
     if offset == 0 {
         return Found::Nothing;
     }
-    lists::at_offset(words, templates, offset)
-}
-
-// The same, where the GUID of that template was not given before.
-fn fresh(words: &[u32], at: usize, templates: Run, key: &[u32], marks: &[bool; 65536]) -> Found
-    requires { ⌜ (at + area.width area.EVENTS ≤ length (now words)) × (length (now key) ≡ entry.KEY) ⌝ }
-    requires { ⌜ lists.few (area.width area.TEMPLATES) templates (now words) ⌝ }
-    ensures { λ r. ⌜ r ≡ spec.unmarked (now (marks .entry)) (lists.found (spec.numberAt (now (words .entry)) templates (now (key .entry)) at)) ⌝ }
-{
-    let Found::Number(n) = template_of(words, at, templates, key) else {
+    let Found::Number(n) = lists::at_offset(words, templates, offset) else {
         return Found::Nothing;
     };
     if marks[n as usize] {
@@ -97,41 +90,41 @@ fn fresh(words: &[u32], at: usize, templates: Run, key: &[u32], marks: &[bool; 6
     Found::Number(n)
 }
 
-// Marks a template whose GUID, at a place, is one that is given.
-fn mark_one(words: &[u32], at: usize, guid: &[u32], marks: &mut [bool; 65536], i: usize)
-    requires { ⌜ (at + length (now guid) ≤ length (now words)) × (i < 65536) ⌝ }
-    ensures { λ _. ⌜ now (marks .exit) ≡ spec.markedOne (now (words .entry)) (now (guid .entry)) at i (now (marks .entry)) ⌝ }
+// The GUID of a template, by its number in list 9.
+fn guid_of<'a>(words: &'a [u32], list: Run, n: u32) -> &'a [u32]
+    requires { ⌜ spec.Listed list (now words) × (n < list .count) ⌝ }
+    ensures { λ r. ⌜ now r ≡ spec.guidOf (now (words .entry)) list n ⌝ }
 {
-    if lists::same(words, at, guid) {
-        marks[i] = true;
+    let from = lists::entry_at(list.start, row::TEMPLATES, n) + TEMPLATE_GUID;
+    let to = from + GUID;
+    &words[from..to]
+}
+
+fn either(a: bool, b: bool) -> bool
+    ensures { λ r. ⌜ r ≡ choose a true b ⌝ }
+{
+    if a {
+        return true;
     }
+    b
 }
 
 // Marks those of all templates that have a GUID.
-fn mark_all(words: &[u32], list: Run, guid: &[u32], marks: &mut [bool; 65536])
+fn mark(words: &[u32], list: Run, guid: &[u32], marks: &mut [bool; 65536])
     requires { ⌜ spec.Listed list (now words) × (length (now guid) ≡ entry.GUID) ⌝ }
-    ensures { λ _. ⌜ now (marks .exit) ≡ spec.markedFrom (now (words .entry)) (now (guid .entry)) 0 (list .count) (list .start) (now (marks .entry)) ⌝ }
+    ensures { λ _. ⌜ now (marks .exit) ≡ spec.marked (now (words .entry)) list (now (guid .entry)) (now (marks .entry)) ⌝ }
 {
     let width = counts::width_of(row::TEMPLATES) as usize;
     let mut at = list.start;
     let mut left = list.count;
     let mut i: usize = 0;
     while 0 < left {
-        mark_one(words, at + TEMPLATE_GUID, guid, marks, i);
+        let given = lists::same(words, at + TEMPLATE_GUID, guid);
+        marks[i] = either(given, marks[i]);
         at += width;
         left -= 1;
         i += 1;
     }
-}
-
-// Marks those of all templates that have the GUID of one of them.
-fn mark(words: &[u32], list: Run, n: u32, marks: &mut [bool; 65536])
-    requires { ⌜ spec.Listed list (now words) × (n < list .count) ⌝ }
-    ensures { λ _. ⌜ now (marks .exit) ≡ spec.marked (now (words .entry)) list n (now (marks .entry)) ⌝ }
-{
-    let from = lists::entry_at(list.start, row::TEMPLATES, n) + TEMPLATE_GUID;
-    let to = from + GUID;
-    mark_all(words, list, &words[from..to], marks);
 }
 
 // The next of some events that gives a GUID which is not marked; of all templates, those that have it are marked then.
@@ -156,7 +149,7 @@ fn next_new(
         first += 1;
         left -= 1;
         if let Found::Number(n) = fresh(words, at, templates, key, marks) {
-            mark(words, list, n, marks);
+            mark(words, list, guid_of(words, list, n), marks);
             return Next::Template(
                 n,
                 Run {
@@ -174,7 +167,7 @@ fn next_new(
 fn count(words: &[u32], events: Run, templates: Run, list: Run, key: &[u32], most: u32) -> u32
     requires { ⌜ lists.few (area.width area.EVENTS) events (now words) × (length (now key) ≡ entry.KEY) × (most ≤ 65536) ⌝ }
     requires { ⌜ spec.Part list templates (now words) ⌝ }
-    ensures { λ r. ⌜ r ≡ spec.upTo most (length (spec.givenBy (now (words .entry)) list templates (now (key .entry)) events)) ⌝ }
+    ensures { λ r. ⌜ r ≡ min (length (spec.givenBy (now (words .entry)) list templates (now (key .entry)) events)) (most + 1) ⌝ }
 {
     let mut marks = [false; 65536];
     let mut rest = events;
@@ -188,16 +181,6 @@ fn count(words: &[u32], events: Run, templates: Run, list: Run, key: &[u32], mos
         n += 1;
     }
     n
-}
-
-// Stores the GUID of a template from a place of the lent list on.
-fn put_guid(words: &[u32], list: Run, n: u32, guids: &mut [u32], to: usize)
-    requires { ⌜ spec.Listed list (now words) × (n < list .count) × (to + entry.GUID ≤ length (now guids)) ⌝ }
-    ensures { λ _. ⌜ now (guids .exit) ≡ laid (now (guids .entry)) to (spec.guidOf (now (words .entry)) list n) ⌝ }
-{
-    let from = lists::entry_at(list.start, row::TEMPLATES, n) + TEMPLATE_GUID;
-    let end = from + GUID;
-    words::put(guids, to, &words[from..end]);
 }
 
 // Stores the GUIDs that some events give, each once.
@@ -215,43 +198,15 @@ fn fill(words: &[u32], events: Run, templates: Run, list: Run, key: &[u32], guid
         else {
             return;
         };
-        put_guid(words, list, n, guids, to);
+        words::put(guids, to, guid_of(words, list, n));
         rest = behind;
         to += GUID;
     }
 }
 
-// Stores the GUIDs that some events give, each once, and tells how many; 9, and nothing is stored, where the lent list is too short.
+// Stores the GUIDs that a provider's events with a key give, each once, and tells how many; 9, and nothing is stored, where the lent list
+// is too short.
 fn give(
-    words: &[u32],
-    events: Run,
-    templates: Run,
-    list: Run,
-    key: &[u32],
-    guids: &mut [u32],
-) -> GuidsFound
-    requires { ⌜ lists.few (area.width area.EVENTS) events (now words) × (length (now key) ≡ entry.KEY) × (length (now guids) / entry.GUID ≤ 65536) ⌝ }
-    requires { ⌜ spec.Part list templates (now words) ⌝ }
-    ensures { λ r. ⌜ r ≡ right.guidsFound (spec.roomFor (now (guids .entry)) (spec.guidsBy (now (words .entry)) list templates (now (key .entry)) events)) ⌝ }
-    ensures { λ _. ⌜ now (guids .exit) ≡ right.guidsHeld (now (guids .entry)) (spec.roomFor (now (guids .entry)) (spec.guidsBy (now (words .entry)) list templates (now (key .entry)) events)) ⌝ }
-{
-    let capacity = (guids.len() / GUID) as u32;
-    let n = count(words, events, templates, list, key, capacity);
-    if capacity < n {
-        return GuidsFound::Refused(Refusal {
-            code: 9,
-            field: 0,
-            place: 0,
-            first: 11,
-            second: capacity as u64,
-        });
-    }
-    fill(words, events, templates, list, key, guids);
-    GuidsFound::Given(n)
-}
-
-// The GUIDs that a provider's events with a key give, over lists that fit together.
-fn give_key(
     words: &[u32],
     capacities: [u32; AREAS],
     counts: [u32; AREAS],
@@ -277,7 +232,19 @@ fn give_key(
     let events = lists::owned(words, capacities, counts, provider, kind::EVNT);
     let templates = lists::owned(words, capacities, counts, provider, kind::TTBL);
     let list = lists::run_of(capacities, counts, row::TEMPLATES);
-    give(words, events, templates, list, &fields, guids)
+    let capacity = (guids.len() / GUID) as u32;
+    let n = count(words, events, templates, list, &fields, capacity);
+    if capacity < n {
+        return GuidsFound::Refused(Refusal {
+            code: 9,
+            field: 0,
+            place: 0,
+            first: 11,
+            second: capacity as u64,
+        });
+    }
+    fill(words, events, templates, list, &fields, guids);
+    GuidsFound::Given(n)
 }
 
 // The lookup by key over lists that fit together.
@@ -299,7 +266,7 @@ fn look_up(
     let Found::Number(provider) = lists::find(words, providers, row::PROVIDERS, 0, &guid) else {
         return GuidsFound::Given(0);
     };
-    give_key(words, capacities, counts, provider, k, guids)
+    give(words, capacities, counts, provider, k, guids)
 }
 
 // The GUIDs of the templates of the events with a key, each once, in first-seen order, into a lent list.

@@ -4,7 +4,7 @@ use mathlib.Core.Path.{_≡_, ap, _∙_, subst}
 use lib.ListN.{length}
 use Rattle.format.specs.Area.{EVENTS, width}
 use Rattle.lists.specs.Found.{few}
-use Rattle.lookup.specs.Given.{numbers, firsts, givenBy, told, behind, upTo-all, upTo-more}
+use Rattle.lookup.specs.Given.{numbers, firsts, told, behind}
 use borrow.Author.Needs.{needs}
 use native.Mathlib.Omega.{arith}
 use Rattle.lookup.proofs.count.Statement.{statement}
@@ -37,7 +37,7 @@ returns c =
     let l = x .before .before .before in
     let a = l .before .before .before .args in
     let e = x .next-new .ensures .0 ∙ ap (told (a .words .now) (a .list) (a .templates) (a .key .now) _) (c .enum-told .given .1) in
-    upTo-all (a .most) (l .loop .n) (length (givenBy (a .words .now) (a .list) (a .templates) (a .key .now) (a .events))) (omega (arith, l .loop .inv .2, ap length e)) (x .before .before .loop-test .taken)
+    omega (arith, l .loop .inv .2, ap length e, x .before .before .loop-test .taken)
 
 add-n : tie.Need-add-n Inv-loop μ-loop
 add-n c = search needs
@@ -58,7 +58,7 @@ loop-again c =
     ((omega (arith, h, l .loop .inv .0), omega (arith, h, l .loop .inv .0)), omega (arith, x .before .before .loop-test .taken), omega (arith, l .loop .inv .2, ap length e))
 
 returns-2 : tie.Need-returns-2 Inv-loop μ-loop
-returns-2 c = upTo-more _ _ _ (c .loop-test .left) (c .before .loop .inv .1) (omega (arith, c .before .loop .inv .2))
+returns-2 c = omega (arith, c .loop-test .left, c .before .loop .inv)
 
 pub count-spec : {M : Type 1} → statement M
 count-spec =

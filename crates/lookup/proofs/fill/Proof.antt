@@ -43,22 +43,30 @@ returns c =
     let x = c .before .before in
     let l = x .before .before in
     let a = l .before .before .before .before .args in
-    let e = x .next-new .ensures .0 ∙ ap (told (a .words .now) (a .list) (a .templates) (a .key .now) _) (c .enum-told .given .1) in
-    sym (l .loop .inv .3 ∙ guids-none (guidOf (a .words .now) (a .list)) _ _ _ e)
+    sym (l .loop .inv .3 ∙ guids-none (guidOf (a .words .now) (a .list)) _ _ _ (x .next-new .ensures .0 ∙ ap (told (a .words .now) (a .list) (a .templates) (a .key .now) _) (c .enum-told .given .1)))
 
-put-guid-requires : tie.Need-put-guid-requires Inv-loop μ-loop
-put-guid-requires c κs =
+guid-of-requires : tie.Need-guid-of-requires Inv-loop μ-loop
+guid-of-requires c κs =
     let n = c .before .before in
     let x = n .before .before in
     let l = x .before .before in
     let o = l .before .before .before .before in
     let a = o .args in
+    (o .pre .1 .0 .0, subst (behind (l .loop .rest) (a .list)) (n .n .given .1) (x .next-new .ensures .1) .0)
+
+put-requires : tie.Need-put-requires Inv-loop μ-loop
+put-requires c κs =
+    let n = c .before .before .before in
+    let x = n .before .before in
+    let l = x .before .before in
+    let o = l .before .before .before .before in
+    let a = o .args in
     let e = x .next-new .ensures .0 ∙ ap (told (a .words .now) (a .list) (a .templates) (a .key .now) _) (n .n .given .1) in
-    (o .pre .1 .0 .0, subst (behind (l .loop .rest) (a .list)) (n .n .given .1) (x .next-new .ensures .1) .0, omega (arith, l .loop .inv .2, ap length e))
+    omega (arith, l .loop .inv .2, ap length e, ap length (c .guid-of .ensures) ∙ guid-length (a .words .now) (a .list) _ (o .pre .1 .0 .0) (subst (behind (l .loop .rest) (a .list)) (n .n .given .1) (x .next-new .ensures .1) .0))
 
 add-to : tie.Need-add-to Inv-loop μ-loop
 add-to c =
-    let n = c .before .before .before .before .before in
+    let n = c .before .before .before .before .before .before in
     let x = n .before .before in
     let l = x .before .before in
     let o = l .before .before .before .before in
@@ -68,25 +76,28 @@ add-to c =
 
 loop-less : tie.Need-loop-less Inv-loop μ-loop
 loop-less c =
-    let n = c .before .before .before .before .before in
+    let n = c .before .before .before .before .before .before in
     let x = n .before .before in
     let l = x .before .before in
-    subst (behind (l .loop .rest) (l .before .before .before .before .args .list)) (n .n .given .1) (x .next-new .ensures .1) .1
+    let o = l .before .before .before .before in
+    let a = o .args in
+    subst (behind (l .loop .rest) (a .list)) (n .n .given .1) (x .next-new .ensures .1) .1
 
 loop-again : tie.Need-loop-again Inv-loop μ-loop
 loop-again c =
     let p = c .before .before in
-    let n = p .before .before .before in
+    let n = p .before .before .before .before in
     let x = n .before .before in
     let l = x .before .before in
     let o = l .before .before .before .before in
     let a = o .args in
     let e = x .next-new .ensures .0 ∙ ap (told (a .words .now) (a .list) (a .templates) (a .key .now) _) (n .n .given .1) in
-    let h = subst (behind (l .loop .rest) (a .list)) (n .n .given .1) (x .next-new .ensures .1) in (
+    let h = subst (behind (l .loop .rest) (a .list)) (n .n .given .1) (x .next-new .ensures .1) in
+    let u = p .put .ensures ∙ ap (laid (l .loop .guids) (l .loop .to)) (p .before .guid-of .ensures) in (
       (omega (arith, h, l .loop .inv .0), omega (arith, h, l .loop .inv .0)),
-      p .put-guid .kept .1 .1 .1 .0 ∙ l .loop .inv .1,
-      omega (arith, l .loop .inv .2, ap length e, p .put-guid .kept .1 .1 .1 .0),
-      l .loop .inv .3 ∙ guids-more (guidOf (a .words .now) (a .list)) _ _ _ _ _ _ e (p .put-guid .ensures) (guid-length (a .words .now) (a .list) _ (o .pre .1 .0 .0) (h .0)),
+      p .put .kept .0 ∙ l .loop .inv .1,
+      omega (arith, l .loop .inv .2, ap length e, p .put .kept .0),
+      l .loop .inv .3 ∙ guids-more (guidOf (a .words .now) (a .list)) _ _ _ _ _ _ e u (guid-length (a .words .now) (a .list) _ (o .pre .1 .0 .0) (h .0)),
     )
 
 pub fill-spec : {M : Type 1} → statement M
@@ -101,7 +112,8 @@ fill-spec =
     enum-told
     same-length
     returns
-    put-guid-requires
+    guid-of-requires
+    put-requires
     add-to
     loop-less
     loop-again)

@@ -37,8 +37,8 @@ returns c =
     let a = o .args in
     room-none (a .guids .now) _ (key-none (a .words .now) (a .capacities) (a .counts) (o .pre .0 .0) (a .k) (ap (λ r. found (position (has 0 (guidWords (a .k .guid))) (r .first) (entries (width PROVIDERS) r (a .words .now)))) (sym (f .before .before .run-of .ensures)) ∙ sym (f .find .ensures) ∙ c .enum-told .given .1))
 
-give-key-requires : tie.Need-give-key-requires
-give-key-requires c κs = search needs
+give-requires : tie.Need-give-requires
+give-requires c κs = search needs
 
 same-length : tie.Need-same-length
 same-length c = search needs
@@ -51,7 +51,7 @@ returns-2 c =
     let o = f .before .before .before .before .before .before in
     let a = o .args in
     let x = sym (key-found (a .words .now) (a .capacities) (a .counts) (o .pre .0 .0) (a .k) _ (ap (λ r. found (position (has 0 (guidWords (a .k .guid))) (r .first) (entries (width PROVIDERS) r (a .words .now)))) (sym (f .before .before .run-of .ensures)) ∙ sym (f .find .ensures) ∙ n .provider .given .1) (o .pre .0 .1)) in
-    (g .give-key .ensures .0 ∙ ap (λ gs. guidsFound (roomFor (a .guids .now) gs)) x, g .give-key .ensures .1 ∙ ap (λ gs. guidsHeld (a .guids .now) (roomFor (a .guids .now) gs)) x)
+    (g .give .ensures .0 ∙ ap (λ gs. guidsFound (roomFor (a .guids .now) gs)) x, g .give .ensures .1 ∙ ap (λ gs. guidsHeld (a .guids .now) (roomFor (a .guids .now) gs)) x)
 
 pub look-up-spec : {M : Type 1} → statement M
 look-up-spec =
@@ -63,6 +63,6 @@ look-up-spec =
     enum-known-provider
     enum-told
     returns
-    give-key-requires
+    give-requires
     same-length
     returns-2)

@@ -1,57 +1,91 @@
--- The GUID is four words.
-use Prim.Native.Nat.{_+_, _-_}
-use mathlib.Core.Path.{_≡_, ap₂, _∙_}
-use lib.ListN.{take, drop}
-use Rattle.format.specs.Entry.{GUID, TEMPLATE-GUID}
-use Rattle.lookup.specs.Given.{markedFrom}
+-- The invariant: what is left decides.
+use Prim.Native.Nat.{_+_, _*_, _≤_}
+use mathlib.Core.Path.{_≡_, refl, ap, sym, _∙_}
+use mathlib.Core.Bool.{true, false}
+use lib.ListN.{length, getD, set}
+use Rattle.blob.specs.Reading.{choose}
+use Rattle.format.specs.Area.{TEMPLATES, width}
+use Rattle.lookup.specs.Given.{markedFrom, marked-more, marked-none}
 use borrow.Author.Needs.{needs}
 use native.Mathlib.Omega.{arith}
 use Rattle.lookup.proofs.mark.Statement.{statement}
 use Rattle.lookup.proofs.mark.Tie as tie
 
-entry-at-requires : tie.Need-entry-at-requires
-entry-at-requires c κs = search needs
+abbrev Inv-loop : tie.InvT-loop
+Inv-loop words guid marks₀ w at₀ left₀ i₀ marks at left i =
+    (at + width TEMPLATES * left ≤ length words)
+    × (i + left ≤ 65536)
+    × (markedFrom words guid 0 left₀ at₀ marks₀ ≡ markedFrom words guid i left at marks)
 
-add-from : tie.Need-add-from
-add-from c = search needs
+abbrev μ-loop : tie.MeasureT-loop
+μ-loop words guid marks₀ w at₀ left₀ i₀ marks at left i = left
 
-add-to : tie.Need-add-to
-add-to c = search needs
+width-of-requires : tie.Need-width-of-requires Inv-loop μ-loop
+width-of-requires c κs = search needs
 
-mul-mark-all : tie.Need-mul-mark-all
-mul-mark-all c = search needs
+cast-width : tie.Need-cast-width Inv-loop μ-loop
+cast-width c = search needs
 
-sub-mark-all : tie.Need-sub-mark-all
-sub-mark-all c = search needs
+loop-holds : tie.Need-loop-holds Inv-loop μ-loop
+loop-holds c = (omega arith, omega arith, refl)
 
-part-mark-all-start : tie.Need-part-mark-all-start
-part-mark-all-start c = search needs
+add-same : tie.Need-add-same Inv-loop μ-loop
+add-same c = search needs
 
-part-mark-all-end : tie.Need-part-mark-all-end
-part-mark-all-end c = search needs
+same-requires : tie.Need-same-requires Inv-loop μ-loop
+same-requires c κs = search needs
 
-mark-all-requires : tie.Need-mark-all-requires
-mark-all-requires c κs = search needs
+element-copy-out-either : tie.Need-element-copy-out-either Inv-loop μ-loop
+element-copy-out-either c = search needs
 
-returns : tie.Need-returns
+either-requires : tie.Need-either-requires Inv-loop μ-loop
+either-requires c κs = search needs
+
+element-write-marks : tie.Need-element-write-marks Inv-loop μ-loop
+element-write-marks c = search needs
+
+add-at : tie.Need-add-at Inv-loop μ-loop
+add-at c = search needs
+
+sub-left : tie.Need-sub-left Inv-loop μ-loop
+sub-left c = search needs
+
+add-i : tie.Need-add-i Inv-loop μ-loop
+add-i c = search needs
+
+loop-less : tie.Need-loop-less Inv-loop μ-loop
+loop-less c = search needs
+
+loop-again : tie.Need-loop-again Inv-loop μ-loop
+loop-again c =
+    let s = c .before .before in
+    let l = s .before .before in
+    let a = l .before .before .before .before .args in
+    let m = ap (set (l .loop .marks) (l .loop .i)) (c .either .ensures ∙ ap (λ t. choose t true (getD (l .loop .marks) (l .loop .i) false)) (s .same .ensures)) in
+    rw (l .before .width-of .ensures .0) (omega arith, omega arith, l .loop .inv .2 ∙ marked-more (a .words .now) (a .guid .now) _ _ _ _ (s .before .loop-test .taken) _ m)
+
+returns : tie.Need-returns Inv-loop μ-loop
 returns c =
-    let n = c .before .before .before in
-    let a = n .before .before .args in
-    let f = n .entry-at .result + TEMPLATE-GUID in
-    let e : (f + GUID) - f ≡ GUID = omega arith in
-    c .mark-all .ensures
-    ∙ ap₂ (λ m g. markedFrom (a .words .now) (take m (drop (g + TEMPLATE-GUID) (a .words .now))) 0 (a .list .count) (a .list .start) (a .marks .now)) e (n .entry-at .ensures)
+    let a = c .before .before .before .before .before .args in
+    sym (c .before .loop .inv .2 ∙ marked-none (a .words .now) (a .guid .now) _ _ _ _ (c .loop-test .left))
 
 pub mark-spec : {M : Type 1} → statement M
 mark-spec =
     tie.close
     (tie.spec
-    entry-at-requires
-    add-from
-    add-to
-    mul-mark-all
-    sub-mark-all
-    part-mark-all-start
-    part-mark-all-end
-    mark-all-requires
+    Inv-loop
+    μ-loop
+    width-of-requires
+    cast-width
+    loop-holds
+    add-same
+    same-requires
+    element-copy-out-either
+    either-requires
+    element-write-marks
+    add-at
+    sub-left
+    add-i
+    loop-less
+    loop-again
     returns)

@@ -1,8 +1,9 @@
 -- The invariant: what is left decides.
 use Prim.{tt}
 use Prim.Native.Nat.{_+_, _≤_}
-use mathlib.Core.Path.{_≡_, refl, sym, _∙_}
-use Rattle.lookup.specs.Given.{numbers, firsts, next-skip, next-give, next-below, next-none}
+use mathlib.Core.Path.{_≡_, refl, ap, sym, _∙_}
+use lib.ListN.{length}
+use Rattle.lookup.specs.Given.{marked, numbers, firsts, guid-length, next-skip, next-give, next-below, next-none}
 use borrow.Author.Needs.{needs}
 use native.Mathlib.Omega.{arith}
 use Rattle.lookup.proofs.next_new.Statement.{statement}
@@ -34,27 +35,39 @@ fresh-requires c κs = search needs
 enum-known-n : tie.Need-enum-known-n Inv-loop μ-loop
 enum-known-n c = search needs
 
-mark-requires : tie.Need-mark-requires Inv-loop μ-loop
-mark-requires c κs =
-    let n = c .before .before in
+guid-of-requires : tie.Need-guid-of-requires Inv-loop μ-loop
+guid-of-requires c κs =
+    let n = c .before in
     let f = n .before .before in
     let i = f .before .before in
     let l = i .before .before in
     let o = l .before .before .before in
-    (o .pre .1 .0, omega (arith, o .pre .1, next-below (o .args .words .now) (o .args .templates) (o .args .key .now) (l .loop .marks) (i .entry-at .result) _ (sym (f .fresh .ensures) ∙ n .n .given .1)))
+    let a = o .args in
+    (o .pre .1 .0, omega (arith, o .pre .1, next-below (a .words .now) (a .templates) (a .key .now) (l .loop .marks) (i .entry-at .result) _ (sym (f .fresh .ensures) ∙ n .n .given .1)))
 
-returns : tie.Need-returns Inv-loop μ-loop
-returns c =
+mark-requires : tie.Need-mark-requires Inv-loop μ-loop
+mark-requires c κs =
     let n = c .before .before .before in
     let f = n .before .before in
     let i = f .before .before in
     let l = i .before .before in
     let o = l .before .before .before in
     let a = o .args in
+    (o .pre .1 .0, ap length (c .before .guid-of .ensures) ∙ guid-length (a .words .now) (a .list) _ (o .pre .1 .0) (omega (arith, o .pre .1, next-below (a .words .now) (a .templates) (a .key .now) (l .loop .marks) (i .entry-at .result) _ (sym (f .fresh .ensures) ∙ n .n .given .1))))
+
+returns : tie.Need-returns Inv-loop μ-loop
+returns c =
+    let g = c .before .before in
+    let n = g .before .before in
+    let f = n .before .before in
+    let i = f .before .before in
+    let l = i .before .before in
+    let o = l .before .before .before in
+    let a = o .args in
     let t = i .before .loop-test .taken in
-    let e = sym (f .fresh .ensures) ∙ n .n .given .1 in (
-      l .loop .inv .1 ∙ next-give (a .words .now) (a .list) (a .templates) (a .key .now) (l .loop .marks) (a .events .start) _ _ (i .entry-at .result) t (i .entry-at .ensures) _ _ e (c .mark .ensures),
-      (omega (arith, o .pre .1, next-below (a .words .now) (a .templates) (a .key .now) (l .loop .marks) (i .entry-at .result) _ e), omega (arith, t, l .loop .inv .0), refl, omega (arith, t, l .loop .inv .0)),
+    let m = c .mark .ensures ∙ ap (λ u. marked (a .words .now) (a .list) u (l .loop .marks)) (g .guid-of .ensures) in (
+      l .loop .inv .1 ∙ next-give (a .words .now) (a .list) (a .templates) (a .key .now) (l .loop .marks) (a .events .start) _ _ (i .entry-at .result) t (i .entry-at .ensures) _ _ (sym (f .fresh .ensures) ∙ n .n .given .1) m,
+      (omega (arith, o .pre .1, next-below (a .words .now) (a .templates) (a .key .now) (l .loop .marks) (i .entry-at .result) _ (sym (f .fresh .ensures) ∙ n .n .given .1)), omega (arith, t, l .loop .inv .0), refl, omega (arith, t, l .loop .inv .0)),
     )
 
 enum-told : tie.Need-enum-told Inv-loop μ-loop
@@ -89,6 +102,7 @@ next-new-spec =
     sub-left
     fresh-requires
     enum-known-n
+    guid-of-requires
     mark-requires
     returns
     enum-told
