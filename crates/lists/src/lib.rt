@@ -144,6 +144,14 @@ fn in_lists(c: [u32; AREAS], provider: u32, kind: u32, first: u32, count: u32) -
     (first as u64) + (count as u64) <= (c[row] as u64)
 }
 
+// A word of the table entry at a place.
+fn table_word(words: &[u32], at: usize, i: usize) -> u32
+    requires { ⌜ (at + area.width area.TABLES ≤ length (now words)) × (i < area.width area.TABLES) ⌝ }
+    ensures { λ r. ⌜ r ≡ right.wordOf i (take (area.width area.TABLES) (drop at (now (words .entry)))) ⌝ }
+{
+    words[at + i]
+}
+
 // Whether a table entry names such.
 fn table_fits(words: &[u32], at: usize, c: [u32; AREAS]) -> bool
     requires { ⌜ at + area.width area.TABLES ≤ length (now words) ⌝ }
@@ -151,10 +159,10 @@ fn table_fits(words: &[u32], at: usize, c: [u32; AREAS]) -> bool
 {
     in_lists(
         c,
-        words[at + TABLE_PROVIDER],
-        words[at + TABLE_KIND],
-        words[at + TABLE_FIRST],
-        words[at + TABLE_COUNT],
+        table_word(words, at, TABLE_PROVIDER),
+        table_word(words, at, TABLE_KIND),
+        table_word(words, at, TABLE_FIRST),
+        table_word(words, at, TABLE_COUNT),
     )
 }
 
@@ -196,8 +204,8 @@ fn range_at(words: &[u32], at: usize, start: usize) -> Run
 {
     Run {
         start,
-        first: words[at + TABLE_FIRST],
-        count: words[at + TABLE_COUNT],
+        first: table_word(words, at, TABLE_FIRST),
+        count: table_word(words, at, TABLE_COUNT),
     }
 }
 
