@@ -96,11 +96,11 @@ owned-given words capacities counts p key list templates events g h e =
     ∙ ap₂ (λ t v. guidsBy words (runOf capacities counts (place TEMPLATES)) t (keyWords key) v) h e
 
 -- where nothing is given, there is room
-pub room-none : (lent : List ℕ) (gs : List Entry) → gs ≡ [] → (guids.Given 0 ≡ guidsFound (roomFor lent gs)) × (lent ≡ guidsHeld lent (roomFor lent gs))
+pub given-none : (lent : List ℕ) (o : Outcome (List Entry)) → o ≡ roomFor lent [] → (guids.Given 0 ≡ guidsFound o) × (lent ≡ guidsHeld lent o)
 unfolding flat laid
-room-none lent gs e =
+given-none lent o e =
     let h : 0 ≤ length lent / GUID = omega arith in
-    let x : roomFor lent gs ≡ done [] = ap (roomFor lent) e ∙ rw (le-leb _ _ h) in
+    let x : o ≡ done [] = e ∙ rw (le-leb _ _ h) in
     (ap guidsFound (sym x), ap (guidsHeld lent) (sym x))
 
 -- a refusal keeps the lent list

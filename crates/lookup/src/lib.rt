@@ -247,28 +247,6 @@ fn give(
     GuidsFound::Given(n)
 }
 
-// The lookup by key over lists that fit together.
-fn look_up(
-    words: &[u32],
-    capacities: [u32; AREAS],
-    counts: [u32; AREAS],
-    k: Key,
-    guids: &mut [u32],
-) -> GuidsFound
-    requires { ⌜ lists.Fit (now words) capacities counts × (right.tablesFit counts (right.entriesOf (now words) capacities counts area.TABLES) ≡ true) ⌝ }
-    requires { ⌜ length (now guids) / entry.GUID ≤ 65536 ⌝ }
-    ensures { λ r. ⌜ r ≡ right.guidsFound (spec.roomFor (now (guids .entry)) (right.guidsOf (now (words .entry)) capacities counts k)) ⌝ }
-    ensures { λ _. ⌜ now (guids .exit) ≡ right.guidsHeld (now (guids .entry)) (spec.roomFor (now (guids .entry)) (right.guidsOf (now (words .entry)) capacities counts k)) ⌝ }
-{
-    let g = k.guid;
-    let guid = [g.a, g.b, g.c, g.d];
-    let providers = lists::run_of(capacities, counts, row::PROVIDERS);
-    let Found::Number(provider) = lists::find(words, providers, row::PROVIDERS, 0, &guid) else {
-        return GuidsFound::Given(0);
-    };
-    give(words, capacities, counts, provider, k, guids)
-}
-
 // The GUIDs of the templates of the events with a key, each once, in first-seen order, into a lent list.
 pub fn templates_for(
     words: &[u32],
@@ -286,5 +264,11 @@ pub fn templates_for(
     if let Verdict::Refused(r) = lists::fit_together(words, capacities, counts) {
         return GuidsFound::Refused(r);
     }
-    look_up(words, capacities, counts, key, guids)
+    let g = key.guid;
+    let guid = [g.a, g.b, g.c, g.d];
+    let providers = lists::run_of(capacities, counts, row::PROVIDERS);
+    let Found::Number(provider) = lists::find(words, providers, row::PROVIDERS, 0, &guid) else {
+        return GuidsFound::Given(0);
+    };
+    give(words, capacities, counts, provider, key, guids)
 }
