@@ -50,7 +50,7 @@ pub fn template_at(
     count: u32,
     offset: u32,
 ) -> TemplateFound
-    ensures { λ r. ⌜ r ≡ right.byOffset (now (words .entry)) capacities counts first count offset ⌝ }
+    ensures { λ r. ⌜ right.AllowedAt (now (words .entry)) capacities counts first count offset r ⌝ }
 {
     if let Verdict::Refused(r) = lists::fit(words, capacities, counts) {
         return TemplateFound::Refused(r);
@@ -255,8 +255,7 @@ pub fn templates_for(
     key: Key,
     guids: &mut [u32],
 ) -> GuidsFound
-    ensures { λ r. ⌜ r ≡ right.guidsFound (right.byKey (now (words .entry)) capacities counts key (now (guids .entry))) ⌝ }
-    ensures { λ _. ⌜ now (guids .exit) ≡ right.guidsHeld (now (guids .entry)) (right.byKey (now (words .entry)) capacities counts key (now (guids .entry))) ⌝ }
+    ensures { λ r. ⌜ right.AllowedFor (now (words .entry)) capacities counts key (now (guids .entry)) r (now (guids .exit)) ⌝ }
 {
     if (MOST as usize) < guids.len() / GUID {
         return GuidsFound::Refused(bounds::own(8));

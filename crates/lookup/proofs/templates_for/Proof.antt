@@ -21,7 +21,7 @@ own-requires c κs = search needs
 returns : tie.Need-returns
 returns c =
     let a = c .before .before .before .before .args in
-    refusal-keeps (a .guids .now) _ _ _ (c .own .ensures) (key-wide (a .words .now) (a .capacities) (a .counts) (a .key) (a .guids .now) (c .before .if1 .taken))
+    (let x = refusal-keeps (a .guids .now) _ _ _ (c .own .ensures) (key-wide (a .words .now) (a .capacities) (a .counts) (a .key) (a .guids .now) (c .before .if1 .taken)) in record { answered = x .0; kept = x .1 })
 
 fit-together-requires : tie.Need-fit-together-requires
 fit-together-requires c κs = search needs
@@ -33,7 +33,7 @@ returns-2 : tie.Need-returns-2
 returns-2 c =
     let f = c .before .before .before in
     let a = f .before .before .before .before .args in
-    refusal-keeps (a .guids .now) _ _ _ refl (key-refused (a .words .now) (a .capacities) (a .counts) (a .key) (a .guids .now) (f .before .if1 .left) _ (sym (f .fit-together .ensures) ∙ c .before .r .given .1))
+    (let x = refusal-keeps (a .guids .now) _ _ _ refl (key-refused (a .words .now) (a .capacities) (a .counts) (a .key) (a .guids .now) (f .before .if1 .left) _ (sym (f .fit-together .ensures) ∙ c .before .r .given .1)) in record { answered = x .0; kept = x .1 })
 
 enum-told : tie.Need-enum-told
 enum-told c = search needs
@@ -65,7 +65,7 @@ returns-3 c =
     let v = e .before .before in
     let a = v .before .before .before .before .args in
     let t = fits-together (a .words .now) (a .capacities) (a .counts) (sym (v .fit-together .ensures) ∙ e .enum-told .given .1) in
-    given-none (a .guids .now) _ (key-room (a .words .now) (a .capacities) (a .counts) (a .key) (a .guids .now) (v .before .if1 .left) (t .0) (t .1) ∙ ap (roomFor (a .guids .now)) (key-none (a .words .now) (a .capacities) (a .counts) (t .0) (a .key) (ap (λ r. found (position (has 0 (guidWords (a .key .guid))) (r .first) (entries (width PROVIDERS) r (a .words .now)))) (sym (f .before .before .run-of .ensures)) ∙ sym (f .find .ensures) ∙ c .enum-told2 .given .1)))
+    (let x = given-none (a .guids .now) _ (key-room (a .words .now) (a .capacities) (a .counts) (a .key) (a .guids .now) (v .before .if1 .left) (t .0) (t .1) ∙ ap (roomFor (a .guids .now)) (key-none (a .words .now) (a .capacities) (a .counts) (t .0) (a .key) (ap (λ r. found (position (has 0 (guidWords (a .key .guid))) (r .first) (entries (width PROVIDERS) r (a .words .now)))) (sym (f .before .before .run-of .ensures)) ∙ sym (f .find .ensures) ∙ c .enum-told2 .given .1))) in record { answered = x .0; kept = x .1 })
 
 give-requires : tie.Need-give-requires
 give-requires c κs =
@@ -89,7 +89,7 @@ returns-4 c =
     let a = v .before .before .before .before .args in
     let t = fits-together (a .words .now) (a .capacities) (a .counts) (sym (v .fit-together .ensures) ∙ e .enum-told .given .1) in
     let x = sym (key-room (a .words .now) (a .capacities) (a .counts) (a .key) (a .guids .now) (v .before .if1 .left) (t .0) (t .1) ∙ ap (roomFor (a .guids .now)) (key-found (a .words .now) (a .capacities) (a .counts) (t .0) (a .key) _ (ap (λ r. found (position (has 0 (guidWords (a .key .guid))) (r .first) (entries (width PROVIDERS) r (a .words .now)))) (sym (f .before .before .run-of .ensures)) ∙ sym (f .find .ensures) ∙ n .provider .given .1) (t .1))) in
-    (u .give .ensures .0 ∙ ap guidsFound x, u .give .ensures .1 ∙ ap (guidsHeld (a .guids .now)) x)
+    record { answered = u .give .ensures .0 ∙ ap guidsFound x; kept = u .give .ensures .1 ∙ ap (guidsHeld (a .guids .now)) x }
 
 pub templates-for-spec : {M : Type 1} → statement M
 templates-for-spec =
