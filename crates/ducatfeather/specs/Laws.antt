@@ -57,3 +57,8 @@ misfit-needs bytes = either (leb (length bytes) 16777216)
     either : (b : Bool) → needing (choose b (refused (own 8)) (refused (own 7))) ≡ answer (choose b (refused (own 8)) (refused (own 7)))
     either true = needs-refused (own 8)
     either false = needs-refused (own 7)
+
+-- and behind five others
+pub laid-behind-five : (a b c d e : ℕ) (l ws : List ℕ) → length l ≡ length ws → laid (a ∷ b ∷ c ∷ d ∷ e ∷ l) 5 ws ≡ a ∷ b ∷ c ∷ d ∷ e ∷ ws
+laid-behind-five a b c d e l ws h =
+    sym (simp append-nil at (laid-between (a ∷ b ∷ c ∷ d ∷ e ∷ []) l [] 0 ws (omega arith))) ∙ ap (λ (x : List ℕ). a ∷ b ∷ c ∷ d ∷ e ∷ x) (laid-whole l ws h)

@@ -1,5 +1,6 @@
 // The C boundary: `read`, `needs` and the lookups over lent runs of numbers.
 ghost use mathlib.Core.Path.{_≡_};
+ghost use mathlib.Core.List.{_∷_};
 ghost use lib.ListN.{length, getD};
 ghost use Rattle.blob.specs.Reading.{refused};
 ghost use Rattle.format.specs.Answer as spec;
@@ -68,11 +69,10 @@ fn read(blob: &[u8], words: &mut [u32], capacities: &[u32], n: usize) -> Answer
     manifest::read(blob, words, for_lists(capacities))
 }
 
-// The numbers of an answer.
-fn numbers(a: Answer) -> [u64; NUMBERS]
-    ensures { λ r. ⌜ r ≡ call.numbers a ⌝ }
+// The numbers of an answer, with its counts.
+fn numbers(a: Answer, counts: [u32; AREAS]) -> [u64; NUMBERS]
+    ensures { λ r. ⌜ r ≡ a .code ∷ a .field ∷ a .place ∷ a .first ∷ a .second ∷ counts ⌝ }
 {
-    let c = a.counts;
     let mut all = [0; NUMBERS];
     all[0] = a.code as u64;
     all[1] = a.field as u64;
@@ -81,7 +81,7 @@ fn numbers(a: Answer) -> [u64; NUMBERS]
     all[4] = a.second;
     let mut i = 0;
     while i < AREAS {
-        all[5 + i] = c[i] as u64;
+        all[5 + i] = counts[i] as u64;
         i += 1;
     }
     all
@@ -112,7 +112,8 @@ pub extern "C" fn ducat_read(
     ensures { λ r. ⌜ call.AllowedRead (now (blob .entry)) (now (words .entry)) (now (capacities .entry)) (now (answer .entry)) r (now (words .exit)) (now (answer .exit)) ⌝ }
 {
     let a = read(blob, words, capacities, answer.len());
-    tell(answer, &numbers(a));
+    let counts = a.counts;
+    tell(answer, &numbers(a, counts));
     a.code as u32
 }
 
@@ -132,7 +133,8 @@ pub extern "C" fn ducat_needs(blob: &[u8], answer: &mut [u64]) -> u32
     ensures { λ r. ⌜ call.AllowedNeeds (now (blob .entry)) (now (answer .entry)) r (now (answer .exit)) ⌝ }
 {
     let a = needs(blob, answer.len());
-    tell(answer, &numbers(a));
+    let counts = a.counts;
+    tell(answer, &numbers(a, counts));
     a.code as u32
 }
 
