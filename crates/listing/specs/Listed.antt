@@ -14,14 +14,15 @@ use Rattle.blob.specs.Laid.{laid, length-laid, flat, flat-map, map-flat}
 use Rattle.blob.specs.Laws.{same, choose-done, then-done, length-flat}
 use Rattle.format.specs.Crim.{Crim}
 use Rattle.format.specs.Provider.{Provider}
+use Rattle.format.specs.Area.{TEMPLATES, rows, of}
 use Rattle.format.specs.Lists.{lists, ownedTables, templatesIn, templateWords}
-use Rattle.format.specs.Answer.{ten, widths, areas, lent-enough, reading, answer, filled, held}
+use Rattle.format.specs.Answer.{areas, lent-enough, reading, answer, filled, held}
 use Rattle.format.specs.Listing.{Piece, templateLine, lines, listing, sixty-four}
 use Rattle.format.specs.Codes.{refused-code}
 use Rattle.format.specs.Block.{reading-crim}
 use Rattle.format.specs.declared.Answer.{Answer}
 use Rattle.format.specs.declared.Template.{Template}
-use Rattle.manifest.specs.Areas.{list-fits}
+use Rattle.areas.specs.Areas.{list-fits}
 use Rattle.listing.specs.Rendered.{characters, newline, line, rendered}
 use Rattle.listing.specs.Put.{Put, refusalLine, blockLine, linesFrom, acceptedText}
 
@@ -59,7 +60,7 @@ area a ws us vs j e h g k =
 
 -- list 9 stands in its area of the lent words
 found : (words : List ℕ) (ps : List Provider) → 5056 ≤ length words → length (templatesOf ps) ≤ 64
-    → (j : ℕ) → j < 12 * length (templatesOf ps) → getD (filled words 0 (ten sixty-four) widths (lists ps)) (4032 + j) 0 ≡ getD (flat templateWords (templatesOf ps)) j 0
+    → (j : ℕ) → j < 12 * length (templatesOf ps) → getD (filled words 0 rows sixty-four (lists ps)) (4032 + j) 0 ≡ getD (flat templateWords (templatesOf ps)) j 0
 unfolding filled lists
 found words ps w f j h =
     let n : length (flat templateWords (templatesOf ps)) ≡ 12 * length (templatesOf ps) = length-flat templateWords 12 (λ t. refl) (templatesOf ps) in
@@ -71,16 +72,15 @@ lines-of : (words : List ℕ) (ts : List Template) (at : ℕ) → ((j : ℕ) →
 unfolding linesFrom flat
 lines-of words [] at h = refl
 lines-of words (t ∷ ts) at h =
-    let zeroth : getD words at 0 ≡ t .offset = ap (λ i. getD words i 0) (sym (add-zero at)) ∙ h 0 (omega arith) in
     ap₂ (λ (l : List Piece) (ls : List (List Piece)). l ∷ ls)
-    (rw (zeroth, h 1 (omega arith), h 10 (omega arith), h 11 (omega arith)) refl)
+    (rw (h 0 (omega arith), h 1 (omega arith), h 10 (omega arith), h 11 (omega arith)) refl)
     (lines-of words ts (at + 12) (λ j g.
     ap (λ i. getD words i 0) (omega arith) ∙ h (12 + j) (omega arith) ∙ getD-append-add (templateWords t) (flat templateWords ts) j 0))
 
 -- what is told of an accepted block, and that there is room for it
 pub record Told-of (words : List ℕ) (o : Outcome Crim) : Type 0 where
   pub text : rendered (lines o) ≡ acceptedText (answer o) (held words sixty-four o)
-  pub few : answer o .counts .templates ≤ 64
+  pub few : of TEMPLATES (answer o .counts) ≤ 64
 
 module _ (bytes words : List ℕ) where
   few-of : (c : Crim) → reading bytes words sixty-four ≡ done c → length (getD (lists (c .providers)) 8 []) ≤ 64
@@ -89,19 +89,19 @@ module _ (bytes words : List ℕ) where
       let o = choose-done (leb (length bytes) 16777216) _ _ c e .1 in
       let h = then-done _ _ c (choose-done (lent-enough sixty-four words) _ _ c o .1) in
       let k = same (h .0) c (sym (h .1) ∙ reading-crim bytes words sixty-four c e) in
-      rw k at (list-fits 1 (ten sixty-four) (lists (h .0 .providers)) (h .0) c (h .2) 8 (omega arith))
+      rw k at (list-fits rows sixty-four (lists (h .0 .providers)) (h .0) c (h .2) 8 (omega arith) (omega arith))
 
   pub accepted : (o : Outcome Crim) → reading bytes words sixty-four ≡ o → 5056 ≤ length words → answer o .code ≡ 0 → Told-of words o
-  unfolding answer held flat
+  unfolding answer held flat lists
   accepted (done c) e w z =
       let ps = c .providers in
       let f = few-of c e in
       let n : length (getD (lists ps) 8 []) ≡ length (templatesOf ps) = ap length (entries ps) ∙ simp length-map in
-      let there = lines-of (filled words 0 (ten sixty-four) widths (lists ps)) (templatesOf ps) 4032 (found words ps w (omega (arith, f, n))) in
+      let there = lines-of (filled words 0 rows sixty-four (lists ps)) (templatesOf ps) 4032 (found words ps w (omega (arith, f, n))) in
       let block = line (blockLine (c .header .size) (length (getD (lists ps) 0 [])) (length (getD (lists ps) 5 [])) (length (getD (lists ps) 8 []))) in
       record {
         text = ap (λ (ls : List (List Piece)). block ++ rendered ls)
-            (ap (map templateLine) (entries ps) ∙ sym there ∙ ap (λ i. linesFrom (filled words 0 (ten sixty-four) widths (lists ps)) i 4032) (sym n));
+            (ap (map templateLine) (entries ps) ∙ sym there ∙ ap (λ i. linesFrom (filled words 0 rows sixty-four (lists ps)) i 4032) (sym n));
         few = f;
       }
   accepted (refused r) e w z = absurd (let h = refused-code bytes words sixty-four r e in omega (arith, h, z))
@@ -130,7 +130,7 @@ module _ (bytes : List ℕ) (h : length bytes ≤ 65536) (a : Answer) where
     listed-refused z = ap (λ b. line (refusalLine (b .code) (b .place))) e ∙ refused-line found-in (rw e at z) ∙ ap rendered (sym listed)
 
     pub listed-accepted : (words : List ℕ) → words ≡ held (replicate 5056 0) sixty-four found-in → a .code ≡ 0
-        → (a .counts .templates ≤ 64) × (acceptedText a words ≡ rendered (listing bytes))
+        → (of TEMPLATES (a .counts) ≤ 64) × (acceptedText a words ≡ rendered (listing bytes))
     listed-accepted words g z =
         let t = accepted bytes (replicate 5056 0) found-in refl (omega arith) (rw e at z) in
         (rw e (t .few), rw (e, g) (sym (t .text)) ∙ ap rendered (sym listed))

@@ -4,6 +4,8 @@ use mathlib.Core.Path.{_≡_}
 use mathlib.Core.List.{List, [], _∷_, _++_}
 use lib.ListN.{length, getD}
 use Rattle.blob.specs.Laid.{laid}
+use Rattle.format.specs.Area.{PROVIDERS, EVENTS, TEMPLATES, of}
+use Rattle.format.specs.Entry.{TEMPLATE-OFFSET, TEMPLATE-SIZE, TEMPLATE-START, TEMPLATE-LENGTH}
 use Rattle.format.specs.Listing.{Piece, says, number}
 use Rattle.listing.specs.Rendered.{decimal, newline, line, rendered}
 use Rattle.format.specs.declared.Answer.{Answer}
@@ -28,8 +30,8 @@ blockLine size providers events templates =
 -- the line of the template entry that stands at a place of the words, and those of n entries from a place on
 abbrev pub lineAt : List ℕ → ℕ → List Piece
 lineAt words at =
-    says "template" ∷ number (getD words at 0) ∷ says "size" ∷ number (getD words (at + 1) 0)
-    ∷ says "binxml" ∷ number (getD words (at + 10) 0) ∷ number (getD words (at + 11) 0) ∷ []
+    says "template" ∷ number (getD words (at + TEMPLATE-OFFSET) 0) ∷ says "size" ∷ number (getD words (at + TEMPLATE-SIZE) 0)
+    ∷ says "binxml" ∷ number (getD words (at + TEMPLATE-START) 0) ∷ number (getD words (at + TEMPLATE-LENGTH) 0) ∷ []
 
 unfoldable pub linesFrom : List ℕ → ℕ → ℕ → List (List Piece)
 linesFrom words zero at = []
@@ -38,4 +40,4 @@ linesFrom words (suc n) at = lineAt words at ∷ linesFrom words n (at + 12)
 -- all lines of an accepted block, by its answer and the words that it was read into
 abbrev pub acceptedText : Answer → List ℕ → List ℕ
 acceptedText a words =
-    line (blockLine (a .first) (a .counts .providers) (a .counts .events) (a .counts .templates)) ++ rendered (linesFrom words (a .counts .templates) 4032)
+    line (blockLine (a .first) (of PROVIDERS (a .counts)) (of EVENTS (a .counts)) (of TEMPLATES (a .counts))) ++ rendered (linesFrom words (of TEMPLATES (a .counts)) 4032)

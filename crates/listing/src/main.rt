@@ -4,6 +4,7 @@ ghost use mathlib.Core.List.{_++_};
 ghost use Prim.Native.Nat.{_+_, _*_, _≤_};
 ghost use lib.ListN.{length};
 ghost use Rattle.format.specs.Answer as spec;
+ghost use Rattle.format.specs.Area.{PROVIDERS, EVENTS, TEMPLATES, of};
 ghost use Rattle.format.specs.Listing.{listing, sixty-four as capacities};
 ghost use Rattle.listing.specs.Rendered.{decimal, rendered, line as lineBytes};
 ghost use Rattle.listing.specs.Put.{Put, fourfold, refusalLine, blockLine, lineAt, linesFrom, acceptedText};
@@ -23,7 +24,7 @@ const MOST: usize = 65536;
 // The words that ten areas of 64 entries take, and where list 9, the templates, starts among them.
 const WORDS: usize = 5056;
 
-const TEMPLATES: usize = 4032;
+const TEMPLATES_AT: usize = 4032;
 
 // Room for the longest listing there can be: a line of at most 116 bytes, and 64 of at most 105.
 const ROOM: usize = 8192;
@@ -152,7 +153,7 @@ fn put_templates(words: &[u32], n: u32, out: &mut [u8], at: usize) -> usize
     ensures { λ r. ⌜ Put (now (out .entry)) at (rendered (linesFrom (now (words .entry)) n 4032)) r (now (out .exit)) ⌝ }
     ensures { λ r. ⌜ r ≤ at + 105 * n ⌝ }
 {
-    let mut from = TEMPLATES;
+    let mut from = TEMPLATES_AT;
     let mut left = n;
     let mut to = at;
     while 0 < left {

@@ -1,4 +1,5 @@
 -- By the length of the bytes, and then by the answer's code.
+use Rattle.format.specs.Area.{TEMPLATES, of}
 use Prim.Native.Nat.{_≤_}
 use mathlib.Core.Path.{_≡_}
 use native.Mathlib.Omega.{arith}
@@ -46,16 +47,16 @@ returns-2 c =
     let t = p .before .before .before in
     let r = t .before .before .before in
     let i = r .before .before in (
-      rw (listed-refused (i .before .before .before .args .bytes .now) (omega (arith, i .if1 .left)) (r .read .result) (r .read .ensures .0) (t .if2 .taken)) at (p .put-refusal .ensures .0),
+      rw (listed-refused (i .before .before .before .args .bytes .now) (omega (arith, i .if1 .left)) (r .read .result) (r .read .ensures .answered) (t .if2 .taken)) at (p .put-refusal .ensures .0),
       omega (arith, p .put-refusal .ensures .1),
     )
 
 -- what was read, where its code is 0
-accepted : (r : tie.After-read) → r .read .result .code ≡ 0 → (r .read .result .counts .templates ≤ 64)
+accepted : (r : tie.After-read) → r .read .result .code ≡ 0 → (of TEMPLATES (r .read .result .counts) ≤ 64)
     × (acceptedText (r .read .result) (r .read .last .1 .0) ≡ rendered (listing (r .before .before .before .before .before .args .bytes .now)))
 accepted r z =
     let i = r .before .before in
-    listed-accepted (i .before .before .before .args .bytes .now) (omega (arith, i .if1 .left)) (r .read .result) (r .read .ensures .0) (r .read .last .1 .0) (r .read .ensures .1) z
+    listed-accepted (i .before .before .before .args .bytes .now) (omega (arith, i .if1 .left)) (r .read .result) (r .read .ensures .answered) (r .read .last .1 .0) (r .read .ensures .kept) z
 
 slice-aggregate-put-accepted : tie.Need-slice-aggregate-put-accepted
 slice-aggregate-put-accepted c = search needs

@@ -2,11 +2,15 @@
 use native.Mathlib.Omega.{arith}
 use Rattle.listing.specs.Rendered.{line}
 use borrow.Author.Needs.{needs}
+use borrow.Author.Needs.{needs}
 use Rattle.listing.proofs.put_template.Statement.{statement}
 use Rattle.listing.proofs.put_template.Tie as tie
 
 slice-aggregate-put-line : tie.Need-slice-aggregate-put-line
 slice-aggregate-put-line c = search needs
+
+add-wide : tie.Need-add-wide
+add-wide c = search needs
 
 mul-wide : tie.Need-mul-wide
 mul-wide c = search needs
@@ -20,8 +24,8 @@ wide-requires c κs = search needs
 slice-aggregate-put-line-2 : tie.Need-slice-aggregate-put-line-2
 slice-aggregate-put-line-2 c = search needs
 
-add-wide : tie.Need-add-wide
-add-wide c = search needs
+add-wide-2 : tie.Need-add-wide-2
+add-wide-2 c = search needs
 
 mul-wide-2 : tie.Need-mul-wide-2
 mul-wide-2 c = search needs
@@ -35,8 +39,8 @@ wide-requires-2 c κs = search needs
 slice-aggregate-put-line-3 : tie.Need-slice-aggregate-put-line-3
 slice-aggregate-put-line-3 c = search needs
 
-add-wide-2 : tie.Need-add-wide-2
-add-wide-2 c = search needs
+add-wide-3 : tie.Need-add-wide-3
+add-wide-3 c = search needs
 
 mul-wide-3 : tie.Need-mul-wide-3
 mul-wide-3 c = search needs
@@ -50,8 +54,8 @@ wide-requires-3 c κs = search needs
 slice-aggregate-put-line-4 : tie.Need-slice-aggregate-put-line-4
 slice-aggregate-put-line-4 c = search needs
 
-add-wide-3 : tie.Need-add-wide-3
-add-wide-3 c = search needs
+add-wide-4 : tie.Need-add-wide-4
+add-wide-4 c = search needs
 
 mul-wide-4 : tie.Need-mul-wide-4
 mul-wide-4 c = search needs
@@ -83,21 +87,22 @@ put-template-spec =
     tie.close
     (tie.spec
     slice-aggregate-put-line
+    add-wide
     mul-wide
     shared-slice-read-wide
     wide-requires
     slice-aggregate-put-line-2
-    add-wide
+    add-wide-2
     mul-wide-2
     shared-slice-read-wide-2
     wide-requires-2
     slice-aggregate-put-line-3
-    add-wide-2
+    add-wide-3
     mul-wide-3
     shared-slice-read-wide-3
     wide-requires-3
     slice-aggregate-put-line-4
-    add-wide-3
+    add-wide-4
     mul-wide-4
     shared-slice-read-wide-4
     wide-requires-4
