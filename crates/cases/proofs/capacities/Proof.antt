@@ -1,15 +1,17 @@
--- 
+-- Row by row.
+use Prim.Native.Nat.{_-_, _≤_}
+use mathlib.Core.Path.{_≡_}
+use lib.ListN.{length}
 use borrow.Author.Needs.{needs}
 use native.Mathlib.Omega.{arith}
 use Rattle.cases.proofs.capacities.Statement.{statement}
 use Rattle.cases.proofs.capacities.Tie as tie
-use Rattle.blob.proofs.word.Reads as word-reads
 
 abbrev Inv-loop : tie.InvT-loop
-Inv-loop row c₀ i₀ c i = ?
+Inv-loop row c₀ i₀ c i = i ≤ 10
 
 abbrev μ-loop : tie.MeasureT-loop
-μ-loop row c₀ i₀ c i = ?
+μ-loop row c₀ i₀ c i = 10 - i
 
 loop-holds : tie.Need-loop-holds Inv-loop μ-loop
 loop-holds c = search needs
@@ -36,10 +38,10 @@ loop-less : tie.Need-loop-less Inv-loop μ-loop
 loop-less c = search needs
 
 loop-again : tie.Need-loop-again Inv-loop μ-loop
-loop-again c = ?
+loop-again c = search needs
 
 returns : tie.Need-returns Inv-loop μ-loop
-returns c = ?
+returns c = search needs
 
 pub capacities-spec : {M : Type 1} → statement M
 capacities-spec =

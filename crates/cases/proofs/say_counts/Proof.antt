@@ -1,15 +1,15 @@
--- 
+-- Row by row.
+use Prim.Native.Nat.{_-_, _≤_}
 use borrow.Author.Needs.{needs}
 use native.Mathlib.Omega.{arith}
 use Rattle.cases.proofs.say_counts.Statement.{statement}
 use Rattle.cases.proofs.say_counts.Tie as tie
-use Rattle.cases.proofs.say_count.Reads as say-count-reads
 
 abbrev Inv-loop : tie.InvT-loop
-Inv-loop c i₀ i = ?
+Inv-loop c i₀ i = i ≤ 10
 
 abbrev μ-loop : tie.MeasureT-loop
-μ-loop c i₀ i = ?
+μ-loop c i₀ i = 10 - i
 
 loop-holds : tie.Need-loop-holds Inv-loop μ-loop
 loop-holds c = search needs
@@ -30,10 +30,10 @@ loop-less : tie.Need-loop-less Inv-loop μ-loop
 loop-less c = search needs
 
 loop-again : tie.Need-loop-again Inv-loop μ-loop
-loop-again c = ?
+loop-again c = search needs
 
 returns : tie.Need-returns Inv-loop μ-loop
-returns c = ?
+returns c = search needs
 
 pub say-counts-spec : {M : Type 1} → statement M
 say-counts-spec =

@@ -1,15 +1,15 @@
--- 
+-- Row by row.
+use Prim.Native.Nat.{_-_, _*_, _≤_}
 use borrow.Author.Needs.{needs}
 use native.Mathlib.Omega.{arith}
 use Rattle.cases.proofs.say_lists.Statement.{statement}
 use Rattle.cases.proofs.say_lists.Tie as tie
-use Rattle.cases.proofs.say_list.Reads as say-list-reads
 
 abbrev Inv-loop : tie.InvT-loop
-Inv-loop words n c i₀ to₀ i to = ?
+Inv-loop words n c i₀ to₀ i to = (i ≤ 10) × (to ≤ i * 68719476736)
 
 abbrev μ-loop : tie.MeasureT-loop
-μ-loop words n c i₀ to₀ i to = ?
+μ-loop words n c i₀ to₀ i to = 10 - i
 
 loop-holds : tie.Need-loop-holds Inv-loop μ-loop
 loop-holds c = search needs
@@ -36,10 +36,10 @@ loop-less : tie.Need-loop-less Inv-loop μ-loop
 loop-less c = search needs
 
 loop-again : tie.Need-loop-again Inv-loop μ-loop
-loop-again c = ?
+loop-again c = (search needs, omega (arith, c .say-list .ensures))
 
 returns : tie.Need-returns Inv-loop μ-loop
-returns c = ?
+returns c = search needs
 
 pub say-lists-spec : {M : Type 1} → statement M
 say-lists-spec =
