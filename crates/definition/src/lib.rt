@@ -26,7 +26,6 @@ use table::header_length;
 use table::stride;
 use table::table_end;
 use words::guid_at;
-use words::put_four;
 
 // The field codes of names, by kind; 0 where it has none.
 const NAME_FIELDS: [u8; 9] = [
@@ -202,16 +201,21 @@ fn put_definition(area: &mut [u32], to: usize, d: Definition)
     requires { ⌜ to + 12 ≤ length (now area) ⌝ }
     ensures { λ _. ⌜ now (area .exit) ≡ laid (now (area .entry)) to (definitionWords d) ⌝ }
 {
-    put_four(area, to, d.kind, d.low, d.high, d.message);
-    put_four(
-        area,
-        to + 4,
+    let entry = [
+        d.kind,
+        d.low,
+        d.high,
+        d.message,
         d.offset,
         d.name.start,
         d.name.units,
         d.unknown,
-    );
-    put_four(area, to + 8, d.mui.a, d.mui.b, d.mui.c, d.mui.d);
+        d.mui.a,
+        d.mui.b,
+        d.mui.c,
+        d.mui.d,
+    ];
+    words::put(area, to, &entry);
 }
 
 // Stores the words of n records that `check_records` found fine.

@@ -211,17 +211,21 @@ fn put_map(area: &mut [u32], to: usize, before: u32, m: Map)
     requires { ⌜ to + 11 ≤ length (now area) ⌝ }
     ensures { λ _. ⌜ now (area .exit) ≡ laid (now (area .entry)) to (mapWords before m) ⌝ }
 {
-    area[to] = m.kind;
-    area[to + 1] = m.signature;
-    area[to + 2] = m.offset;
-    area[to + 3] = m.size;
-    area[to + 4] = m.string;
-    area[to + 5] = m.name.start;
-    area[to + 6] = m.name.units;
-    area[to + 7] = pick(m.kind, 1, before, 0);
-    area[to + 8] = m.count;
-    area[to + 9] = m.start;
-    area[to + 10] = m.length;
+    let first = pick(m.kind, 1, before, 0);
+    let entry = [
+        m.kind,
+        m.signature,
+        m.offset,
+        m.size,
+        m.string,
+        m.name.start,
+        m.name.units,
+        first,
+        m.count,
+        m.start,
+        m.length,
+    ];
+    words::put(area, to, &entry);
 }
 
 // Stores the words of n maps; so many entries were stored before theirs, and so many with theirs.
@@ -272,10 +276,8 @@ fn put_entry(b: &[u8], at: usize, area: &mut [u32], to: usize)
     requires { ⌜ (at + 8 ≤ length (now b)) × (to + 2 ≤ length (now area)) ⌝ }
     ensures { λ _. ⌜ now (area .exit) ≡ laid (now (area .entry)) to (mapEntryWords (entry (now (b .entry)) at)) ⌝ }
 {
-    let identifier = blob::word(b, at);
-    let message = blob::word(b, at + 4);
-    area[to] = identifier;
-    area[to + 1] = message;
+    let entry = [blob::word(b, at), blob::word(b, at + 4)];
+    words::put(area, to, &entry);
 }
 
 // Stores the words of so many entries from a place on.
