@@ -5,17 +5,15 @@ ghost use lib.ListN.{length};
 ghost use Rattle.blob.specs.Reading.{run, done, verdict, values};
 ghost use Rattle.blob.specs.Laid.{laid, flat};
 ghost use Rattle.format.specs.Table.{header-length, stride};
-ghost use Rattle.format.specs.Definition.{channelFields, keywordFields, taskFields, plainFields, fieldsAt, name-field, named, definitionAt, definitionRead, definitionsAt};
+ghost use Rattle.format.specs.Definition.{channelFields, keywordFields, taskFields, plainFields, fieldsAt, name-field, named, definitionAt, definitionsAt};
 ghost use Rattle.format.specs.Lists.{definitionWords};
-ghost use Rattle.definition.specs.Records.{rows};
+ghost use Rattle.definition.specs.Records.{rows, name-place};
 use blob::Verdict;
 use format::Definition;
-use format::DefinitionRead;
 use format::EndRead;
 use format::Guid;
 use format::Header;
 use format::Name;
-use format::NameRead;
 use format::field::CHAN_NAME;
 use format::field::KEYW_DATA;
 use format::field::LEVL_DATA;
@@ -150,16 +148,16 @@ fn with_name(d: Definition, n: Name) -> Definition
     out
 }
 
-// The definition whose record stands at a place.
-fn definition_at(b: &[u8], kind: u32, at: usize) -> DefinitionRead
-    requires { ⌜ (kind ≤ 8) × (12 ≤ stride kind) × (at + stride kind ≤ length (now b)) ⌝ }
-    requires { ⌜ length (now b) ≤ 16777216 ⌝ }
-    ensures { λ r. ⌜ r ≡ definitionRead (run (definitionAt kind at) (now (b .entry))) ⌝ }
+// Where the name offset stands in a kind's record.
+fn name_place(kind: u32) -> usize
+    requires { ⌜ 12 ≤ stride kind ⌝ }
+    ensures { λ r. ⌜ (r ≡ name-place kind) × (r + 4 ≤ stride kind) ⌝ }
 {
-    let d = fields_at(b, kind, at);
-    match name::name_at(b, b.len(), name_field(kind), d.offset) {
-        NameRead::Name(n) => DefinitionRead::Definition(with_name(d, n)),
-        NameRead::Refused(r) => DefinitionRead::Refused(r),
+    match kind {
+        1 => 4,
+        3 => 12,
+        7 => 24,
+        _ => 8,
     }
 }
 
@@ -170,11 +168,14 @@ fn check_records(b: &[u8], kind: u32, start: usize, n: u32) -> Verdict
     ensures { λ r. ⌜ r ≡ verdict (run (rows kind (stride kind) n start) (now (b .entry))) ⌝ }
 {
     let bytes = stride(kind) as usize;
+    let field = name_field(kind);
+    let place = name_place(kind);
     let mut at = start;
     let mut left = n;
     while 0 < left {
-        let found = definition_at(b, kind, at);
-        if let DefinitionRead::Refused(r) = found {
+        let offset = blob::word(b, at + place);
+        let found = name::check(b, b.len(), field, offset);
+        if let Verdict::Refused(r) = found {
             return Verdict::Refused(r);
         }
         at += bytes;
@@ -194,6 +195,17 @@ pub fn check_definitions(b: &[u8], kind: u32, at: usize, h: Header) -> Verdict
         return Verdict::Refused(r);
     }
     check_records(b, kind, at + header_length(kind) as usize, h.count)
+}
+
+// The definition whose record stands at a place, and whose name is known to be fine.
+fn definition_of(b: &[u8], kind: u32, at: usize) -> Definition
+    requires { ⌜ (kind ≤ 8) × (12 ≤ stride kind) × (at + stride kind ≤ length (now b)) ⌝ }
+    requires { ⌜ length (now b) ≤ 16777216 ⌝ }
+    requires { ⌜ verdict (run (definitionAt kind at) (now b)) ≡ Verdict.Fine ⌝ }
+    ensures { λ r. ⌜ run (definitionAt kind at) (now (b .entry)) ≡ done r ⌝ }
+{
+    let d = fields_at(b, kind, at);
+    with_name(d, name::name_of(b, b.len(), name_field(kind), d.offset))
 }
 
 // Stores a definition's words from a place of the area on.
@@ -231,10 +243,7 @@ fn fill_records(b: &[u8], kind: u32, start: usize, n: u32, area: &mut [u32])
     let mut left = n;
     let mut to = 0;
     while 0 < left {
-        let DefinitionRead::Definition(d) = definition_at(b, kind, at) else {
-            return;
-        };
-        put_definition(area, to, d);
+        put_definition(area, to, definition_of(b, kind, at));
         at += bytes;
         left -= 1;
         to += 12;

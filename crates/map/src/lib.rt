@@ -22,7 +22,6 @@ use format::Header;
 use format::Map;
 use format::MapRead;
 use format::Name;
-use format::NameRead;
 use format::field::MAPS_MAP_OFFSET;
 use format::field::MAPS_MAP_SIGNATURE;
 use format::field::MAPS_OFFSETS_ARRAY;
@@ -86,9 +85,12 @@ fn named_map(b: &[u8], at: usize, size: u32, string: u32, count: u32) -> MapRead
     requires { ⌜ (at + size ≤ length (now b)) × (length (now b) ≤ 16777216) × (16 + 8 * count ≤ size) ⌝ }
     ensures { λ r. ⌜ r ≡ namedMap at size string count (run (nameAt blob-end VMAP-map-string string) (now (b .entry))) ⌝ }
 {
-    match name::name_at(b, b.len(), VMAP_MAP_STRING, string) {
-        NameRead::Name(name) => MapRead::Map(value_map(at, size, string, count, name)),
-        NameRead::Refused(r) => MapRead::Refused(r),
+    match name::check(b, b.len(), VMAP_MAP_STRING, string) {
+        Verdict::Fine => {
+            let name = name::name_of(b, b.len(), VMAP_MAP_STRING, string);
+            MapRead::Map(value_map(at, size, string, count, name))
+        }
+        Verdict::Refused(r) => MapRead::Refused(r),
     }
 }
 
