@@ -1,5 +1,5 @@
 -- What a reading of a definition's record finds, by its kind, and one of a table of them.
-use Prim.Native.Nat.{ℕ, suc, _+_, _-_, _*_, _<_}
+use Prim.Native.Nat.{ℕ, suc, _+_, _-_, _*_, _≤_, _<_}
 use mathlib.Core.Path.{_≡_, refl, ap, sym, _∙_}
 use mathlib.Core.List.{List}
 use mathlib.Core.Bool.{Bool, true, false}
@@ -14,9 +14,10 @@ use Rattle.blob.specs.Laws.{not-fine, fine-value, run-number, run-after, run-st
 use Rattle.format.specs.Region.{blob-end, until}
 use Rattle.format.specs.Until.{name-until}
 use Rattle.name.specs.Read.{is-refused}
+use Rattle.table.specs.Headers.{no, of-kinds}
 use Rattle.words.specs.Guid.{guid-found}
 use Rattle.format.specs.Name.{absent, nameAt}
-use Rattle.format.specs.Table.{CHAN, KEYW, TASK, header-length, stride, tableEnd}
+use Rattle.format.specs.Table.{CHAN, KEYW, LEVL, OPCO, TASK, header-length, stride, tableEnd}
 use Rattle.format.specs.Definition.{guidAt, channelFields, keywordFields, taskFields, plainFields, fieldsAt, name-field, named, definitionAt, step, definitionsAt}
 use Rattle.blob.specs.declared.Refusal.{Refusal}
 use Rattle.format.specs.declared.Guid.{Guid}
@@ -24,6 +25,11 @@ use Rattle.format.specs.declared.Name.{Name}
 use Rattle.format.specs.declared.Definition.{Definition}
 use Rattle.format.specs.declared.Header.{Header}
 use Rattle.blob.specs.declared.Verdict.the-variants as verdicts
+
+-- the other kinds have no names
+pub no-name : (k : ℕ) → k ≤ 8 → no k CHAN → no k KEYW → no k LEVL → no k OPCO → no k TASK → name-field k ≡ 0
+no-name =
+    of-kinds (λ k. no k CHAN → no k KEYW → no k LEVL → no k OPCO → no k TASK → name-field k ≡ 0) (λ a b c d e. refl) (λ a b c d e. absurd (a refl)) (λ a b c d e. refl) (λ a b c d e. absurd (b refl)) (λ a b c d e. absurd (c refl)) (λ a b c d e. refl) (λ a b c d e. absurd (d refl)) (λ a b c d e. absurd (e refl)) (λ a b c d e. refl)
 
 -- a record's length, by its kind
 pub of-channel : (k : ℕ) → k ≡ CHAN → stride k ≡ 16

@@ -19,31 +19,30 @@ use format::field::KEYW_DATA;
 use format::field::LEVL_DATA;
 use format::field::OPCO_DATA;
 use format::field::TASK_DATA;
+use format::kind::CHAN;
+use format::kind::KEYW;
+use format::kind::LEVL;
+use format::kind::OPCO;
+use format::kind::TASK;
 use name::absent;
 use table::header_length;
 use table::stride;
 use table::table_end;
 use words::guid_at;
 
-// The field codes of names, by kind; 0 where it has none.
-const NAME_FIELDS: [u8; 9] = [
-    0,
-    CHAN_NAME,
-    0,
-    KEYW_DATA,
-    LEVL_DATA,
-    0,
-    OPCO_DATA,
-    TASK_DATA,
-    0,
-];
-
-// The field of a kind's names.
+// The field of a kind's names; 0 where it has none.
 fn name_field(kind: u32) -> u8
     requires { ⌜ kind ≤ 8 ⌝ }
     ensures { λ r. ⌜ r ≡ name-field kind ⌝ }
 {
-    NAME_FIELDS[kind as usize]
+    match kind {
+        CHAN => CHAN_NAME,
+        KEYW => KEYW_DATA,
+        LEVL => LEVL_DATA,
+        OPCO => OPCO_DATA,
+        TASK => TASK_DATA,
+        _ => 0,
+    }
 }
 
 // No GUID, of a kind that has none.
@@ -64,7 +63,7 @@ fn channel(b: &[u8], at: usize) -> Definition
     ensures { λ r. ⌜ run (channelFields at) (now (b .entry)) ≡ done r ⌝ }
 {
     Definition {
-        kind: 1,
+        kind: CHAN,
         low: blob::word(b, at),
         high: 0,
         message: blob::word(b, at + 12),
@@ -81,7 +80,7 @@ fn keyword(b: &[u8], at: usize) -> Definition
     ensures { λ r. ⌜ run (keywordFields at) (now (b .entry)) ≡ done r ⌝ }
 {
     Definition {
-        kind: 3,
+        kind: KEYW,
         low: blob::word(b, at),
         high: blob::word(b, at + 4),
         message: blob::word(b, at + 8),
@@ -98,7 +97,7 @@ fn task(b: &[u8], at: usize) -> Definition
     ensures { λ r. ⌜ run (taskFields at) (now (b .entry)) ≡ done r ⌝ }
 {
     Definition {
-        kind: 7,
+        kind: TASK,
         low: blob::word(b, at),
         high: 0,
         message: blob::word(b, at + 4),
@@ -132,9 +131,9 @@ fn fields_at(b: &[u8], kind: u32, at: usize) -> Definition
     ensures { λ r. ⌜ run (fieldsAt kind at) (now (b .entry)) ≡ done r ⌝ }
 {
     match kind {
-        1 => channel(b, at),
-        3 => keyword(b, at),
-        7 => task(b, at),
+        CHAN => channel(b, at),
+        KEYW => keyword(b, at),
+        TASK => task(b, at),
         _ => plain(b, kind, at),
     }
 }
@@ -154,9 +153,9 @@ fn name_place(kind: u32) -> usize
     ensures { λ r. ⌜ (r ≡ name-place kind) × (r + 4 ≤ stride kind) ⌝ }
 {
     match kind {
-        1 => 4,
-        3 => 12,
-        7 => 24,
+        CHAN => 4,
+        KEYW => 12,
+        TASK => 24,
         _ => 8,
     }
 }

@@ -31,12 +31,9 @@ use format::field::VMAP_HEADER;
 use format::field::VMAP_MAP_STRING;
 use format::field::VMAP_SIZE;
 use format::field::VMAP_SIZE_FIELD;
+use format::signature::BMAP;
+use format::signature::VMAP;
 use name::absent;
-
-// Signatures, as little-endian numbers.
-const VMAP: u32 = 0x50414D56;
-
-const BMAP: u32 = 0x50414D42;
 
 // How many of so many bytes from a place on lie before an end.
 fn cut(most: u32, at: usize, end: usize) -> u32

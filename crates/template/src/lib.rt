@@ -24,10 +24,8 @@ use format::field::TEMP_SIZE;
 use format::field::TEMP_TEMPLATE_ITEMS_OFFSET;
 use format::field::TEMP_TEMPLATE_ITEMS_OFFSET_RELATIVE;
 use format::field::TTBL_SIZE;
+use format::signature::TEMP;
 use words::guid_at;
-
-// `TEMP` as a little-endian number.
-const TEMP: u32 = 0x504D4554;
 
 // Where a TEMP's items stand, from the TEMP's place, its size and its items offset.
 fn items_of(temp: BlobPlace, size: u32, offset: BlobPlace) -> Items
