@@ -6,7 +6,7 @@ ghost use lib.ListN.{length};
 ghost use Rattle.blob.specs.Reading.{run, got, verdict};
 ghost use Rattle.format.specs.Refuse as refuse;
 ghost use Rattle.format.specs.Region as region;
-ghost use Rattle.format.specs.Answer.{capped};
+ghost use Rattle.format.specs.Answer.{own, capped};
 use blob::Refusal;
 use blob::Verdict;
 use format::EndRead;
@@ -84,6 +84,19 @@ pub fn not_utf16(field: u8, at: usize) -> Refusal
         code: 6,
         field,
         place: at as u64,
+        first: 0,
+        second: 0,
+    }
+}
+
+// A refusal of the port's own, which is about no byte.
+pub fn own(code: u8) -> Refusal
+    ensures { λ r. ⌜ r ≡ own code ⌝ }
+{
+    Refusal {
+        code,
+        field: 0,
+        place: 0,
         first: 0,
         second: 0,
     }

@@ -1,11 +1,11 @@
-// Reads each blob of the input and prints what is answered: a line with the blob's name, code, field, place, both numbers and the ten
+// Reads each blob of the input and prints what is answered: a line with the blob's name, code, field, place, both numbers and the
 // counts, and behind that of an accepted one a line with the words of each list that has entries.
 // The input is a row of records of 640 bytes: twelve 32-bit little-endian numbers, which are the lengths of the name and of the blob and the
 // ten capacities; 80 bytes with the name; 512 bytes with the blob.
-ghost use Prim.Native.Nat.{_+_, _≤_};
+ghost use Prim.Native.Nat.{_+_, _≤_, _<_};
 ghost use lib.ListN.{length};
 use format::Answer;
-use format::Counts;
+use format::list::AREAS;
 use libc::STDIN_FILENO;
 use libc::STDOUT_FILENO;
 
@@ -36,17 +36,12 @@ fn say_count(n: u32) {
     say(b" ", wide(n));
 }
 
-fn say_counts(c: Counts) {
-    say_count(c.providers);
-    say_count(c.descriptors);
-    say_count(c.unknown2);
-    say_count(c.tables);
-    say_count(c.definitions);
-    say_count(c.events);
-    say_count(c.maps);
-    say_count(c.entries);
-    say_count(c.templates);
-    say_count(c.unknown);
+fn say_counts(c: [u32; AREAS]) {
+    let mut i = 0;
+    while i < AREAS {
+        say_count(c[i]);
+        i += 1;
+    }
 }
 
 fn say_answer(name: &[u8], a: Answer) {
@@ -70,44 +65,32 @@ fn say_words(words: &[u32]) {
     }
 }
 
-// The words of so many entries.
-fn area(entries: u32, width: u32) -> usize
-    requires { ⌜ width ≤ 16 ⌝ }
-    ensures { λ r. ⌜ r ≤ 68719476736 ⌝ }
-{
-    (entries as usize) * (width as usize)
-}
-
-// Prints the words of a list that has entries; hands back where its area ends.
-fn say_list(number: u64, words: &[u32], from: usize, count: u32, capacity: u32, width: u32) -> usize
-    requires { ⌜ (width ≤ 16) × (from ≤ 687194767360) ⌝ }
+// Prints the words of the list of a row that has entries; hands back where its area ends.
+fn say_list(row: usize, words: &[u32], from: usize, count: u32, capacity: u32) -> usize
+    requires { ⌜ (row < 10) × (from ≤ 687194767360) ⌝ }
     ensures { λ r. ⌜ r ≤ from + 68719476736 ⌝ }
 {
-    let to = from + area(count, width);
+    let to = from + counts::words_of(count, row);
     if 0 < count && to <= words.len() {
-        say(b"  list ", number);
+        say(b"  list ", wide(counts::number_of(row)));
         io::write_all(STDOUT_FILENO, b":");
         say_words(&words[from..to]);
         say_line_end();
     }
-    from + area(capacity, width)
+    from + counts::words_of(capacity, row)
 }
 
 // The areas start one where the one before ends.
-fn say_lists(words: &[u32], n: Counts, c: Counts) {
-    let to = say_list(1, words, 0, n.providers, c.providers, 9);
-    let to = say_list(2, words, to, n.descriptors, c.descriptors, 3);
-    let to = say_list(3, words, to, n.unknown2, c.unknown2, 1);
-    let to = say_list(4, words, to, n.tables, c.tables, 9);
-    let to = say_list(5, words, to, n.definitions, c.definitions, 12);
-    let to = say_list(6, words, to, n.events, c.events, 16);
-    let to = say_list(7, words, to, n.maps, c.maps, 11);
-    let to = say_list(8, words, to, n.entries, c.entries, 2);
-    let to = say_list(9, words, to, n.templates, c.templates, 12);
-    let _ = say_list(10, words, to, n.unknown, c.unknown, 4);
+fn say_lists(words: &[u32], n: [u32; AREAS], c: [u32; AREAS]) {
+    let mut i = 0;
+    let mut to = 0;
+    while i < AREAS {
+        to = say_list(i, words, to, n[i], c[i]);
+        i += 1;
+    }
 }
 
-fn show(name: &[u8], blob: &[u8], capacities: Counts) {
+fn show(name: &[u8], blob: &[u8], capacities: [u32; AREAS]) {
     let mut words = [0u32; WORDS];
     let a = manifest::read(blob, &mut words, capacities);
     say_answer(name, a);
@@ -117,21 +100,16 @@ fn show(name: &[u8], blob: &[u8], capacities: Counts) {
     }
 }
 
-fn capacities(row: &[u8]) -> Counts
+fn capacities(row: &[u8]) -> [u32; AREAS]
     requires { ⌜ 48 ≤ length (now row) ⌝ }
 {
-    Counts {
-        providers: blob::word(row, 8),
-        descriptors: blob::word(row, 12),
-        unknown2: blob::word(row, 16),
-        tables: blob::word(row, 20),
-        definitions: blob::word(row, 24),
-        events: blob::word(row, 28),
-        maps: blob::word(row, 32),
-        entries: blob::word(row, 36),
-        templates: blob::word(row, 40),
-        unknown: blob::word(row, 44),
+    let mut c = [0; AREAS];
+    let mut i = 0;
+    while i < AREAS {
+        c[i] = blob::word(row, 8 + 4 * i);
+        i += 1;
     }
+    c
 }
 
 fn say_broken() {

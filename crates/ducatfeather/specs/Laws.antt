@@ -12,8 +12,7 @@ use Rattle.blob.specs.Laid.{laid, laid-between}
 use Rattle.blob.specs.Reading.{refused, choose}
 use Rattle.format.specs.Answer.{answer, needing, held, own}
 use Rattle.format.specs.Determined.{needs-refused}
-use Rattle.format.specs.declared.Counts.{Counts}
-use Rattle.ducatfeather.specs.Call.{misfit, ten-each}
+use Rattle.ducatfeather.specs.Call.{misfit, each-row}
 
 -- numbers laid into as many are all that is there
 pub laid-whole : (a ws : List ℕ) → length a ≡ length ws → laid a 0 ws ≡ ws
@@ -34,16 +33,16 @@ module _ (a told : List ℕ) (i : ℕ) where
   unfolding laid
   laid-none h = rw (drop-of-length-le told {i = i} h)
 
--- ten capacities and ten counts
-pub ten-of : (capacities counts : List ℕ) → ten-each capacities counts ≡ true → (length capacities ≡ 10) × (length counts ≡ 10)
-ten-of capacities counts e = go (eqb (length capacities) 10) refl e
+-- a capacity and a count for each row
+pub rows-of : (capacities counts : List ℕ) → each-row capacities counts ≡ true → (length capacities ≡ 10) × (length counts ≡ 10)
+rows-of capacities counts e = go (eqb (length capacities) 10) refl e
   where
     go : (b : Bool) → eqb (length capacities) 10 ≡ b → (b && eqb (length counts) 10) ≡ true → (length capacities ≡ 10) × (length counts ≡ 10)
     go true p q = (eqb-true _ _ p, eqb-true _ _ q)
     go false p q = absurd (let z : _≡_ {A = ℕ} 0 1 = cc in omega arith)
 
 -- a call that misfits touches no word
-pub misfit-keeps : (words : List ℕ) (capacities : Counts) (bytes : List ℕ) → words ≡ held words capacities (misfit bytes)
+pub misfit-keeps : (words : List ℕ) (capacities : List ℕ) (bytes : List ℕ) → words ≡ held words capacities (misfit bytes)
 unfolding held
 misfit-keeps words capacities bytes = either (leb (length bytes) 16777216)
   where
@@ -58,3 +57,8 @@ misfit-needs bytes = either (leb (length bytes) 16777216)
     either : (b : Bool) → needing (choose b (refused (own 8)) (refused (own 7))) ≡ answer (choose b (refused (own 8)) (refused (own 7)))
     either true = needs-refused (own 8)
     either false = needs-refused (own 7)
+
+-- and behind five others
+pub laid-behind-five : (a b c d e : ℕ) (l ws : List ℕ) → length l ≡ length ws → laid (a ∷ b ∷ c ∷ d ∷ e ∷ l) 5 ws ≡ a ∷ b ∷ c ∷ d ∷ e ∷ ws
+laid-behind-five a b c d e l ws h =
+    sym (simp append-nil at (laid-between (a ∷ b ∷ c ∷ d ∷ e ∷ []) l [] 0 ws (omega arith))) ∙ ap (λ (x : List ℕ). a ∷ b ∷ c ∷ d ∷ e ∷ x) (laid-whole l ws h)

@@ -2,3 +2,4 @@
 pub mod Call
 -- Theorems about it.
 pub mod Laws
+pub mod Determined

@@ -1,112 +1,90 @@
 // The C boundary: `read`, `needs` and the lookups over lent runs of numbers.
 ghost use mathlib.Core.Path.{_≡_};
+ghost use mathlib.Core.List.{_∷_};
 ghost use lib.ListN.{length, getD};
 ghost use Rattle.blob.specs.Reading.{refused};
 ghost use Rattle.format.specs.Answer as spec;
 ghost use Rattle.format.specs.Lookup as right;
 ghost use Rattle.ducatfeather.specs.Call as call;
-ghost use Rattle.ducatfeather.specs.Call.{for-lists, called};
+ghost use Rattle.ducatfeather.specs.Call.{called};
 use blob::Refusal;
 use format::Answer;
-use format::Counts;
 use format::Guid;
 use format::GuidsFound;
 use format::Key;
 use format::TemplateFound;
+use format::list::AREAS;
 
 // The longest lent bytes that are read.
 const LONGEST: usize = 16777216;
 
-// Ten numbers in list order, as capacities or counts.
-fn for_lists(numbers: &[u32]) -> Counts
+// The numbers of an answer: code, field, place, first, second, and the counts.
+const NUMBERS: usize = 5 + AREAS;
+
+// The lent numbers of the lists, as an array.
+fn for_lists(numbers: &[u32]) -> [u32; AREAS]
     requires { ⌜ length (now numbers) ≡ 10 ⌝ }
-    ensures { λ r. ⌜ r ≡ for-lists (now (numbers .entry)) ⌝ }
+    ensures { λ r. ⌜ r ≡ now (numbers .entry) ⌝ }
 {
-    Counts {
-        providers: numbers[0],
-        descriptors: numbers[1],
-        unknown2: numbers[2],
-        tables: numbers[3],
-        definitions: numbers[4],
-        events: numbers[5],
-        maps: numbers[6],
-        entries: numbers[7],
-        templates: numbers[8],
-        unknown: numbers[9],
-    }
+    let mut all = [0; AREAS];
+    words::put(&mut all, 0, numbers);
+    all
 }
 
-// A refusal with a code of the port's own.
-fn own(code: u8) -> Answer
-    ensures { λ r. ⌜ r ≡ spec.answer (refused (spec.own code)) ⌝ }
+// The answer that a refusal is.
+fn refuse(r: Refusal) -> Answer
+    ensures { λ a. ⌜ a ≡ spec.answer (refused r) ⌝ }
 {
     Answer {
-        code,
-        field: 0,
-        place: 0,
-        first: 0,
-        second: 0,
-        counts: Counts {
-            providers: 0,
-            descriptors: 0,
-            unknown2: 0,
-            tables: 0,
-            definitions: 0,
-            events: 0,
-            maps: 0,
-            entries: 0,
-            templates: 0,
-            unknown: 0,
-        },
+        code: r.code,
+        field: r.field,
+        place: r.place,
+        first: r.first,
+        second: r.second,
+        counts: [0; AREAS],
     }
 }
 
-// The answer where the capacities are not ten, or the numbers not fifteen.
+// The answer where there is another number of capacities, or of numbers for the answer.
 fn refusal(blob: &[u8]) -> Answer
     ensures { λ r. ⌜ r ≡ spec.answer (call.misfit (now (blob .entry))) ⌝ }
 {
     if LONGEST < blob.len() {
-        return own(7);
+        return refuse(bounds::own(7));
     }
-    own(8)
+    refuse(bounds::own(8))
 }
 
 // The answer, with n numbers to store it in.
 fn read(blob: &[u8], words: &mut [u32], capacities: &[u32], n: usize) -> Answer
     ensures { λ r. ⌜ r ≡ spec.answer (called (now (blob .entry)) (now (words .entry)) (now (capacities .entry)) n) ⌝ }
-    ensures { λ _. ⌜ now (words .exit) ≡ spec.held (now (words .entry)) (for-lists (now (capacities .entry))) (called (now (blob .entry)) (now (words .entry)) (now (capacities .entry)) n) ⌝ }
+    ensures { λ _. ⌜ now (words .exit) ≡ spec.held (now (words .entry)) (now (capacities .entry)) (called (now (blob .entry)) (now (words .entry)) (now (capacities .entry)) n) ⌝ }
 {
-    if capacities.len() != 10 {
+    if capacities.len() != AREAS {
         return refusal(blob);
     }
-    if n != 15 {
+    if n != NUMBERS {
         return refusal(blob);
     }
     manifest::read(blob, words, for_lists(capacities))
 }
 
-// The fifteen numbers of an answer.
-fn numbers(a: Answer) -> [u64; 15]
-    ensures { λ r. ⌜ r ≡ call.numbers a ⌝ }
+// The numbers of an answer, with its counts.
+fn numbers(a: Answer, counts: [u32; AREAS]) -> [u64; NUMBERS]
+    ensures { λ r. ⌜ r ≡ a .code ∷ a .field ∷ a .place ∷ a .first ∷ a .second ∷ counts ⌝ }
 {
-    let c = a.counts;
-    [
-        a.code as u64,
-        a.field as u64,
-        a.place,
-        a.first,
-        a.second,
-        c.providers as u64,
-        c.descriptors as u64,
-        c.unknown2 as u64,
-        c.tables as u64,
-        c.definitions as u64,
-        c.events as u64,
-        c.maps as u64,
-        c.entries as u64,
-        c.templates as u64,
-        c.unknown as u64,
-    ]
+    let mut all = [0; NUMBERS];
+    all[0] = a.code as u64;
+    all[1] = a.field as u64;
+    all[2] = a.place;
+    all[3] = a.first;
+    all[4] = a.second;
+    let mut i = 0;
+    while i < AREAS {
+        all[5 + i] = counts[i] as u64;
+        i += 1;
+    }
+    all
 }
 
 // Stores an answer's numbers where as many are lent.
@@ -131,12 +109,11 @@ pub extern "C" fn ducat_read(
     capacities: &[u32],
     answer: &mut [u64],
 ) -> u32
-    ensures { λ r. ⌜ r ≡ spec.answer (called (now (blob .entry)) (now (words .entry)) (now (capacities .entry)) (length (now (answer .entry)))) .code ⌝ }
-    ensures { λ _. ⌜ now (answer .exit) ≡ call.told (now (answer .entry)) (call.numbers (spec.answer (called (now (blob .entry)) (now (words .entry)) (now (capacities .entry)) (length (now (answer .entry)))))) ⌝ }
-    ensures { λ _. ⌜ now (words .exit) ≡ spec.held (now (words .entry)) (for-lists (now (capacities .entry))) (called (now (blob .entry)) (now (words .entry)) (now (capacities .entry)) (length (now (answer .entry)))) ⌝ }
+    ensures { λ r. ⌜ call.AllowedRead (now (blob .entry)) (now (words .entry)) (now (capacities .entry)) (now (answer .entry)) r (now (words .exit)) (now (answer .exit)) ⌝ }
 {
     let a = read(blob, words, capacities, answer.len());
-    tell(answer, &numbers(a));
+    let counts = a.counts;
+    tell(answer, &numbers(a, counts));
     a.code as u32
 }
 
@@ -144,7 +121,7 @@ pub extern "C" fn ducat_read(
 fn needs(blob: &[u8], n: usize) -> Answer
     ensures { λ r. ⌜ r ≡ spec.needing (call.calledNeeds (now (blob .entry)) n) ⌝ }
 {
-    if n == 15 {
+    if n == NUMBERS {
         return manifest::needs(blob);
     }
     refusal(blob)
@@ -153,35 +130,22 @@ fn needs(blob: &[u8], n: usize) -> Answer
 // Says what each list needs for the block in a lent blob.
 #[no_mangle]
 pub extern "C" fn ducat_needs(blob: &[u8], answer: &mut [u64]) -> u32
-    ensures { λ r. ⌜ r ≡ spec.needing (call.calledNeeds (now (blob .entry)) (length (now (answer .entry)))) .code ⌝ }
-    ensures { λ _. ⌜ now (answer .exit) ≡ call.told (now (answer .entry)) (call.numbers (spec.needing (call.calledNeeds (now (blob .entry)) (length (now (answer .entry)))))) ⌝ }
+    ensures { λ r. ⌜ call.AllowedNeeds (now (blob .entry)) (now (answer .entry)) r (now (answer .exit)) ⌝ }
 {
     let a = needs(blob, answer.len());
-    tell(answer, &numbers(a));
+    let counts = a.counts;
+    tell(answer, &numbers(a, counts));
     a.code as u32
 }
 
-// A lookup's refusal where some lent run has another length than is expected.
-fn misfit() -> Refusal
-    ensures { λ r. ⌜ r ≡ spec.own 8 ⌝ }
+// Whether there are a capacity and a count for each row.
+fn each_row(capacities: &[u32], counts: &[u32]) -> bool
+    ensures { λ r. ⌜ r ≡ call.each-row (now (capacities .entry)) (now (counts .entry)) ⌝ }
 {
-    Refusal {
-        code: 8,
-        field: 0,
-        place: 0,
-        first: 0,
-        second: 0,
-    }
-}
-
-// Whether there are ten capacities and ten counts.
-fn ten_each(capacities: &[u32], counts: &[u32]) -> bool
-    ensures { λ r. ⌜ r ≡ call.ten-each (now (capacities .entry)) (now (counts .entry)) ⌝ }
-{
-    if capacities.len() != 10 {
+    if capacities.len() != AREAS {
         return false;
     }
-    counts.len() == 10
+    counts.len() == AREAS
 }
 
 // The template at an offset, with n numbers to store the answer in.
@@ -196,11 +160,11 @@ fn template_at(
 ) -> TemplateFound
     ensures { λ r. ⌜ r ≡ call.calledAt (now (words .entry)) (now (capacities .entry)) (now (counts .entry)) first count offset n ⌝ }
 {
-    if !ten_each(capacities, counts) {
-        return TemplateFound::Refused(misfit());
+    if !each_row(capacities, counts) {
+        return TemplateFound::Refused(bounds::own(8));
     }
     if n != 6 {
-        return TemplateFound::Refused(misfit());
+        return TemplateFound::Refused(bounds::own(8));
     }
     lookup::template_at(
         words,
@@ -245,8 +209,7 @@ pub extern "C" fn ducat_template_at(
     offset: u32,
     answer: &mut [u64],
 ) -> u32
-    ensures { λ r. ⌜ r ≡ getD (call.templateNumbers (call.calledAt (now (words .entry)) (now (capacities .entry)) (now (counts .entry)) first count offset (length (now (answer .entry))))) 0 0 ⌝ }
-    ensures { λ _. ⌜ now (answer .exit) ≡ call.told (now (answer .entry)) (call.templateNumbers (call.calledAt (now (words .entry)) (now (capacities .entry)) (now (counts .entry)) first count offset (length (now (answer .entry))))) ⌝ }
+    ensures { λ r. ⌜ call.AllowedTemplate (now (words .entry)) (now (capacities .entry)) (now (counts .entry)) first count offset (now (answer .entry)) r (now (answer .exit)) ⌝ }
 {
     let f = template_at(
         words,
@@ -296,14 +259,14 @@ fn templates_for(
     ensures { λ r. ⌜ r ≡ right.guidsFound (call.calledFor (now (words .entry)) (now (capacities .entry)) (now (counts .entry)) (now (key .entry)) (now (guids .entry)) n) ⌝ }
     ensures { λ _. ⌜ now (guids .exit) ≡ right.guidsHeld (now (guids .entry)) (call.calledFor (now (words .entry)) (now (capacities .entry)) (now (counts .entry)) (now (key .entry)) (now (guids .entry)) n) ⌝ }
 {
-    if !ten_each(capacities, counts) {
-        return GuidsFound::Refused(misfit());
+    if !each_row(capacities, counts) {
+        return GuidsFound::Refused(bounds::own(8));
     }
     if key.len() != 12 {
-        return GuidsFound::Refused(misfit());
+        return GuidsFound::Refused(bounds::own(8));
     }
     if n != 5 {
-        return GuidsFound::Refused(misfit());
+        return GuidsFound::Refused(bounds::own(8));
     }
     lookup::templates_for(
         words,
@@ -344,9 +307,7 @@ pub extern "C" fn ducat_templates_for(
     guids: &mut [u32],
     answer: &mut [u64],
 ) -> u32
-    ensures { λ r. ⌜ r ≡ getD (call.guidNumbers (right.guidsFound (call.calledFor (now (words .entry)) (now (capacities .entry)) (now (counts .entry)) (now (key .entry)) (now (guids .entry)) (length (now (answer .entry)))))) 0 0 ⌝ }
-    ensures { λ _. ⌜ now (answer .exit) ≡ call.told (now (answer .entry)) (call.guidNumbers (right.guidsFound (call.calledFor (now (words .entry)) (now (capacities .entry)) (now (counts .entry)) (now (key .entry)) (now (guids .entry)) (length (now (answer .entry)))))) ⌝ }
-    ensures { λ _. ⌜ now (guids .exit) ≡ right.guidsHeld (now (guids .entry)) (call.calledFor (now (words .entry)) (now (capacities .entry)) (now (counts .entry)) (now (key .entry)) (now (guids .entry)) (length (now (answer .entry)))) ⌝ }
+    ensures { λ r. ⌜ call.AllowedGuids (now (words .entry)) (now (capacities .entry)) (now (counts .entry)) (now (key .entry)) (now (guids .entry)) (now (answer .entry)) r (now (guids .exit)) (now (answer .exit)) ⌝ }
 {
     let f = templates_for(words, capacities, counts, key, guids, answer.len());
     tell(answer, &guid_numbers(f));

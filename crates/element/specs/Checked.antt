@@ -54,11 +54,11 @@ module _ (at : ℕ) (s : List ℕ) where
   unfolding unknownAt
   unknown-short h g = rw (run-room, run-past)
 
-  module _ (h : at + 8 ≤ length s) (e : ℕ) (ends : e ≡ min (at + le 4 s (at + 4)) 4294967295) where
+  module _ (h : at + 8 ≤ length s) (e : ℕ) (ends : e ≡ at + le 4 s (at + 4)) where
     here : at ≤ length s
     here = omega arith
 
-    pub unknown-out : length s < e → run (unknownAt at) s ≡ refused (offset-out unknown-element-end e .told (length s))
+    pub unknown-out : length s < e → run (unknownAt at) s ≡ refused (offset-out unknown-element-end (min e 4294967295) .told (length s))
     unfolding unknownAt
     unknown-out g = let i = here in rw (run-room, run-room, run-number, run-number, ← ends, run-past)
 

@@ -44,7 +44,9 @@ kind-definitions : (k : ℕ) → 1 ≤ k → k ≤ 8 → (k ≡ EVNT → ⊥) �
 kind-definitions zero a b e m t = absurd (omega arith)
 kind-definitions (suc k) a b e m t =
     first (λ i. (suc i ≡ EVNT → ⊥) → (suc i ≡ MAPS → ⊥) → (suc i ≡ TTBL → ⊥) → kindList (suc i) ≡ DEFINITIONS) 8 (
-    (λ e m t. refl), ((λ e m t. absurd (e refl)), ((λ e m t. refl), ((λ e m t. refl), ((λ e m t. absurd (m refl)), ((λ e m t. refl), ((λ e m t. refl), ((λ e m t. absurd (t refl)), tt)))))))) k (omega arith) e m t
+      (λ e m t. refl),
+      ((λ e m t. absurd (e refl)), ((λ e m t. refl), ((λ e m t. refl), ((λ e m t. absurd (m refl)), ((λ e m t. refl), ((λ e m t. refl), ((λ e m t. absurd (t refl)), tt))))))),
+    ) k (omega arith) e m t
 
 -- which reading a kind's is
 module _ (k at : ℕ) (h : Header) where

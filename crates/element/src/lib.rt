@@ -54,14 +54,12 @@ pub fn kind_of(signature: u32) -> u32
     }
 }
 
-// The end of so many bytes from a place on, as a 32-bit number.
-fn end_of(at: usize, size: u32) -> usize
-    requires { ⌜ at ≤ 16777216 ⌝ }
-    ensures { λ r. ⌜ r ≡ min (at + size) 4294967295 ⌝ }
+// A number as a refusal tells it, in 32 bits.
+fn in_word(n: usize) -> usize
+    ensures { λ r. ⌜ r ≡ min n 4294967295 ⌝ }
 {
-    let end = at + size as usize;
-    if end < 4294967295 {
-        return end;
+    if n < 4294967295 {
+        return n;
     }
     4294967295
 }
@@ -77,9 +75,9 @@ fn check_unknown(b: &[u8], at: usize) -> EntriesRead
     if b.len() - at < 8 {
         return EntriesRead::Refused(bounds::truncated(b.len(), UNKNOWN_ELEMENT_HEADER, at, 8));
     }
-    let end = end_of(at, blob::word(b, at + 4));
+    let end = at + blob::word(b, at + 4) as usize;
     if b.len() < end {
-        return EntriesRead::Refused(bounds::offset_out(b.len(), UNKNOWN_ELEMENT_END, end));
+        return EntriesRead::Refused(bounds::offset_out(b.len(), UNKNOWN_ELEMENT_END, in_word(end)));
     }
     EntriesRead::Entries(0)
 }

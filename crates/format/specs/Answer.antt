@@ -3,6 +3,7 @@
 -- given exactly when the definition accepts and there is one. A refusal touches no lent word; on 0 the needed entries are written, all
 -- other words kept." (the answer)
 use Prim.Native.Nat.{ℕ, _+_, _*_, min}
+use mathlib.Core.Path.{_≡_}
 use mathlib.Core.Bool.{Bool, true, _&&_}
 use mathlib.Core.List.{List, [], _∷_, map}
 use lib.ListN.{length}
@@ -105,3 +106,11 @@ filled words at (r ∷ rs) (c ∷ cs) (l ∷ ls) = filled (laid words at (flat (
 unfoldable pub held : List ℕ → List ℕ → Outcome Crim → List ℕ
 held words capacities (done c) = filled words 0 rows capacities (lists (c .providers))
 held words capacities (refused r) = words
+
+-- What a reading may answer and leave in the lent words, and what the needs may be: this, and nothing else. It is what the code promises.
+pub record Allowed (bytes words capacities : List ℕ) (a : Answer) (after : List ℕ) : Type 0 where
+  pub answered : a ≡ answer (reading bytes words capacities)
+  pub kept : after ≡ held words capacities (reading bytes words capacities)
+
+pub record NeedsAllowed (bytes : List ℕ) (a : Answer) : Type 0 where
+  pub answered : a ≡ needing (block bytes)

@@ -25,6 +25,7 @@ pub mod Parts
 -- Theorems about it.
 pub mod Cases
 pub mod Examples
+pub mod Words
 pub mod Order
 pub mod Codes
 pub mod Determined

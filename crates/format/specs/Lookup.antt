@@ -1,6 +1,7 @@
 -- Finding a template. "A lookup takes the lent words, capacities and counts of a reading. Order: 8 as above, 10 for a count over its
 -- capacity or a fault named below, then 9." (finding a template)
 use Prim.Native.Nat.{ℕ, zero, suc, _+_, _-_, _/_}
+use mathlib.Core.Path.{_≡_}
 use mathlib.Core.Bool.{Bool, true, false, not, _&&_}
 use mathlib.Core.List.{List, [], _∷_, map}
 use lib.ListN.{length, getD, take, drop}
@@ -135,3 +136,11 @@ guidsFound o = answer (λ gs. guids.Given (length gs)) guids.Refused o
 abbrev pub guidsHeld : List ℕ → Outcome (List Entry) → List ℕ
 guidsHeld lent (done gs) = laid lent 0 (flat (λ g. g) gs)
 guidsHeld lent (refused r) = lent
+
+-- What the lookups may answer and leave in the lent list: this, and nothing else. It is what the code promises.
+pub record AllowedAt (words capacities counts : List ℕ) (first count offset : ℕ) (f : TemplateFound) : Type 0 where
+  pub answered : f ≡ byOffset words capacities counts first count offset
+
+pub record AllowedFor (words capacities counts : List ℕ) (key : Key) (lent : List ℕ) (f : GuidsFound) (after : List ℕ) : Type 0 where
+  pub answered : f ≡ guidsFound (byKey words capacities counts key lent)
+  pub kept : after ≡ guidsHeld lent (byKey words capacities counts key lent)

@@ -85,8 +85,7 @@ unknownAt at =
     within provider-element-offset at (
     whole unknown-element-header at 8 (
     number 4 at >>= λ signature. number 4 (at + 4) >>= λ size.
-    let e = min (at + size) 4294967295 in
-    room e (offset-out unknown-element-end e) (
+    room (at + size) (offset-out unknown-element-end (min (at + size) 4294967295)) (
     got (unknown (record { signature = signature; offset = at; size = size })))))
 
 -- the element of a kind

@@ -8,7 +8,12 @@ ghost use Rattle.format.specs.Listing.{listing, sixty-four as capacities};
 ghost use Rattle.listing.specs.Rendered.{decimal, rendered, line as lineBytes};
 ghost use Rattle.listing.specs.Put.{Put, fourfold, refusalLine, blockLine, lineAt, linesFrom, acceptedText};
 use format::Answer;
-use format::Counts;
+use format::entry::TEMPLATE_LENGTH;
+use format::entry::TEMPLATE_OFFSET;
+use format::entry::TEMPLATE_SIZE;
+use format::entry::TEMPLATE_START;
+use format::list::AREAS;
+use format::list::row;
 use libc::STDIN_FILENO;
 use libc::STDOUT_FILENO;
 
@@ -100,20 +105,20 @@ fn wide(x: u32) -> u64
 }
 
 // The same of the line of an accepted block.
-fn put_block(size: u64, counts: Counts, out: &mut [u8]) -> usize
+fn put_block(size: u64, counts: [u32; AREAS], out: &mut [u8]) -> usize
     requires { ⌜ 116 ≤ length (now out) ⌝ }
-    ensures { λ r. ⌜ Put (now (out .entry)) 0 (lineBytes (blockLine size (counts .providers) (counts .events) (counts .templates))) r (now (out .exit)) ⌝ }
+    ensures { λ r. ⌜ Put (now (out .entry)) 0 (lineBytes (blockLine size (of PROVIDERS counts) (of EVENTS counts) (of TEMPLATES counts))) r (now (out .exit)) ⌝ }
     ensures { λ r. ⌜ r ≤ 116 ⌝ }
 {
     put_line(
         b"crim ",
         size,
         b" providers ",
-        wide(counts.providers),
+        wide(counts[row::PROVIDERS]),
         b" events ",
-        wide(counts.events),
+        wide(counts[row::EVENTS]),
         b" templates ",
-        wide(counts.templates),
+        wide(counts[row::TEMPLATES]),
         out,
         0,
     )
@@ -128,13 +133,13 @@ fn put_template(words: &[u32], from: usize, out: &mut [u8], at: usize) -> usize
 {
     put_line(
         b"template ",
-        wide(words[from]),
+        wide(words[from + TEMPLATE_OFFSET]),
         b" size ",
-        wide(words[from + 1]),
+        wide(words[from + TEMPLATE_SIZE]),
         b" binxml ",
-        wide(words[from + 10]),
+        wide(words[from + TEMPLATE_START]),
         b" ",
-        wide(words[from + 11]),
+        wide(words[from + TEMPLATE_LENGTH]),
         out,
         at,
     )
@@ -160,39 +165,20 @@ fn put_templates(words: &[u32], n: u32, out: &mut [u8], at: usize) -> usize
 
 // The same of all lines of an accepted block, by its answer and the words that it was read into.
 fn put_accepted(a: Answer, words: &[u32], out: &mut [u8]) -> usize
-    requires { ⌜ (a .counts .templates ≤ 64) × (5056 ≤ length (now words)) × (8192 ≤ length (now out)) ⌝ }
+    requires { ⌜ (of TEMPLATES (a .counts) ≤ 64) × (5056 ≤ length (now words)) × (8192 ≤ length (now out)) ⌝ }
     ensures { λ r. ⌜ Put (now (out .entry)) 0 (acceptedText a (now (words .entry))) r (now (out .exit)) ⌝ }
     ensures { λ r. ⌜ r ≤ 8192 ⌝ }
 {
     let counts = a.counts;
     let to = put_block(a.first, counts, out);
-    put_templates(words, counts.templates, out, to)
-}
-
-// 64 entries a list.
-fn sixty_four() -> Counts
-    ensures { λ r. ⌜ r ≡ capacities ⌝ }
-{
-    Counts {
-        providers: 64,
-        descriptors: 64,
-        unknown2: 64,
-        tables: 64,
-        definitions: 64,
-        events: 64,
-        maps: 64,
-        entries: 64,
-        templates: 64,
-        unknown: 64,
-    }
+    put_templates(words, counts[row::TEMPLATES], out, to)
 }
 
 // Reads the block with 64 entries a list.
 fn read(bytes: &[u8], words: &mut [u32]) -> Answer
-    ensures { λ r. ⌜ r ≡ spec.answer (spec.reading (now (bytes .entry)) (now (words .entry)) capacities) ⌝ }
-    ensures { λ _. ⌜ now (words .exit) ≡ spec.held (now (words .entry)) capacities (spec.reading (now (bytes .entry)) (now (words .entry)) capacities) ⌝ }
+    ensures { λ r. ⌜ spec.Allowed (now (bytes .entry)) (now (words .entry)) capacities r (now (words .exit)) ⌝ }
 {
-    manifest::read(bytes, words, sixty_four())
+    manifest::read(bytes, words, [64; AREAS])
 }
 
 // Puts the listing of some bytes; hands back where it ends. What the program promises is promised here: `main` only reads and writes.

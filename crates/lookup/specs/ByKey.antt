@@ -1,114 +1,108 @@
 -- The lookup by key, by what was tested and found.
 use Prim.Native.Nat.{ℕ, _/_, _≤_, _<_}
-use mathlib.Core.Path.{_≡_, ap, ap₂, sym, _∙_}
-use mathlib.Core.Bool.{true, false}
+use mathlib.Core.Path.{_≡_, refl, ap, ap₂, sym, _∙_}
+use mathlib.Core.Bool.{Bool, true, false, _&&_}
 use mathlib.Core.List.{List, [], append-nil}
 use native.Mathlib.Omega.{arith}
-use lib.ListN.{length, take}
+use lib.ListN.{length}
 use borrow.Author.Tests.{le-leb, lt-leb}
 use Rattle.blob.specs.Reading.{Outcome, done, refused}
 use Rattle.blob.specs.Laid.{laid, flat}
 use Rattle.blob.specs.declared.Refusal.{Refusal}
+use Rattle.blob.specs.declared.Verdict.the-variants as verdicts
+use Rattle.format.specs.Area.{PROVIDERS, TABLES, EVENTS, TEMPLATES, place, width, of}
+use Rattle.format.specs.Entry.{GUID, EVENT-TEMPLATE}
 use Rattle.format.specs.Table.{EVNT, TTBL}
 use Rattle.format.specs.Lists.{Entry, guidWords}
-use Rattle.format.specs.Answer.{areas, widths, ten, own, lent-enough}
+use Rattle.format.specs.Answer.{own, lent-enough}
 use Rattle.format.specs.Lookup.{entriesOf, wordOf, select, position, counts-fit, tablesFit, once, keyed, keyWords, guidAtOffset, guidsOf, byKey, guidsFound, guidsHeld}
 use Rattle.format.specs.declared.GuidsFound.the-variants as guids
-use Rattle.format.specs.declared.Counts.{Counts}
 use Rattle.format.specs.declared.Key.{Key}
-use Rattle.lookup.specs.declared.Found.the-variants as founds
-use Rattle.lookup.specs.declared.Run.{Run}
-use Rattle.lookup.specs.Fit.{inside}
-use Rattle.lookup.specs.Found.{entries, few, found, starts, tableOf, owned, roomFor}
-use Rattle.lookup.specs.Given.{none-found, position-found, guidsBy}
+use Rattle.lists.specs.declared.Found.the-variants as founds
+use Rattle.lists.specs.declared.Run.{Run}
+use Rattle.lists.specs.Fit.{refused-as, inside, whole-entries}
+use Rattle.lists.specs.Found.{entries, few, runOf, has, found, fitTogether, Fit, owned}
+use Rattle.lists.specs.Search.{and-true, none-found, position-found}
+use Rattle.lists.specs.Tables.{owned-entries}
+use Rattle.lookup.specs.Given.{Part, guidsBy, guidsOwned, roomFor}
 use Rattle.lookup.specs.Once.{given-once}
-use Rattle.lookup.specs.Tables.{owned-entries}
+
+and-false : (b : Bool) → (b && false) ≡ false
+and-false true = refl
+and-false false = refl
 
 -- the verdicts before anything is looked for
-module _ (words : List ℕ) (capacities counts : Counts) (key : Key) (lent : List ℕ) where
-  pub key-8 : lent-enough capacities words ≡ false → byKey words capacities counts key lent ≡ refused (own 8)
+module _ (words capacities counts : List ℕ) (key : Key) (lent : List ℕ) where
+  pub key-wide : 65536 < length lent / GUID → byKey words capacities counts key lent ≡ refused (own 8)
   unfolding byKey
-  key-8 l = rw l
+  key-wide h = rw (lt-leb _ _ h, and-false)
 
-  pub key-wide : lent-enough capacities words ≡ true → 65536 < length lent / 4 → byKey words capacities counts key lent ≡ refused (own 8)
+  pub key-refused : length lent / GUID ≤ 65536 → (r : Refusal) → fitTogether words capacities counts ≡ verdicts.Refused r → byKey words capacities counts key lent ≡ refused r
   unfolding byKey
-  key-wide l h = rw (l, lt-leb _ _ h)
+  key-refused h r e =
+      rw (le-leb _ _ h, and-true (lent-enough capacities words))
+      (refused-as refused _ (lent-enough capacities words) (counts-fit counts capacities && tablesFit counts (entriesOf words capacities counts TABLES)) r e)
 
-  pub key-over : lent-enough capacities words ≡ true → length lent / 4 ≤ 65536 → counts-fit (ten counts) (ten capacities) ≡ false
-      → byKey words capacities counts key lent ≡ refused (own 10)
+  pub key-room : length lent / GUID ≤ 65536 → Fit words capacities counts → tablesFit counts (entriesOf words capacities counts TABLES) ≡ true
+      → byKey words capacities counts key lent ≡ roomFor lent (guidsOf words capacities counts key)
   unfolding byKey
-  key-over l h e = rw (l, le-leb _ _ h, e)
-
-  pub key-unfit : lent-enough capacities words ≡ true → length lent / 4 ≤ 65536 → counts-fit (ten counts) (ten capacities) ≡ true
-      → tablesFit counts (entriesOf words capacities counts 4) ≡ false → byKey words capacities counts key lent ≡ refused (own 10)
-  unfolding byKey
-  key-unfit l h e t = rw (l, le-leb _ _ h, e, t)
-
-  pub key-room : lent-enough capacities words ≡ true → length lent / 4 ≤ 65536 → counts-fit (ten counts) (ten capacities) ≡ true
-      → tablesFit counts (entriesOf words capacities counts 4) ≡ true → byKey words capacities counts key lent ≡ roomFor lent (guidsOf words capacities counts key)
-  unfolding byKey
-  key-room l h e t = rw (l, le-leb _ _ h, e, t)
-
--- the tables, and what a provider has in the lists of the events and of the templates
-abbrev pub providersOf : Counts → Run
-providersOf counts = record { at = 0; count = counts .providers }
-
-abbrev pub tablesOf : Counts → Counts → Run
-tablesOf capacities counts = record { at = areas (take 3 (ten capacities)) widths; count = counts .tables }
-
-abbrev pub eventsOf : List ℕ → Counts → Counts → ℕ → Run
-eventsOf words capacities counts p = owned (areas (take 5 (ten capacities)) widths) 16 (tableOf p EVNT (entries 9 (tablesOf capacities counts) words))
-
-abbrev pub templatesOf : List ℕ → Counts → Counts → ℕ → Run
-templatesOf words capacities counts p = owned (areas (take 8 (ten capacities)) widths) 12 (tableOf p TTBL (entries 9 (tablesOf capacities counts) words))
+  key-room h f t = rw (f .0, le-leb _ _ h, f .1, t)
 
 -- over lists that fit together
-module _ (words : List ℕ) (capacities counts : Counts) (l : lent-enough capacities words ≡ true) (e : counts-fit (ten counts) (ten capacities) ≡ true) where
-  pub providers-in : few 9 (providersOf counts) words
-  unfolding areas
-  providers-in = let i = inside words capacities counts l e 0 in (omega (arith, i .0), i .1)
-
-  pub tables-in : few 9 (tablesOf capacities counts) words
-  tables-in = inside words capacities counts l e 3
-
-  module _ (t : tablesFit counts (entriesOf words capacities counts 4) ≡ true) (p : ℕ) where
-    pub events-in : few 16 (eventsOf words capacities counts p) words
+module _ (words capacities counts : List ℕ) (f : Fit words capacities counts) where
+  module _ (t : tablesFit counts (entriesOf words capacities counts TABLES) ≡ true) (p : ℕ) where
+    pub events-in : few (width EVENTS) (owned words capacities counts p EVNT) words
     events-in =
-        let i = inside words capacities counts l e 5 in
-        let o = owned-entries counts words EVNT (areas (take 5 (ten capacities)) widths) 16 p (entries 9 (tablesOf capacities counts) words) t in
-        (omega (arith, i .0, o .inside), omega (arith, i .1, o .most))
+        let i = inside words capacities counts f (place EVENTS) in
+        let o = owned-entries words capacities counts EVENTS EVNT refl p (entriesOf words capacities counts TABLES) t in
+        (omega (arith, i .0, o .begins, o .within), omega (arith, i .1, o .within))
 
-    pub templates-in : few 12 (templatesOf words capacities counts p) words
+    pub templates-in : Part (runOf capacities counts (place TEMPLATES)) (owned words capacities counts p TTBL) words
     templates-in =
-        let i = inside words capacities counts l e 8 in
-        let o = owned-entries counts words TTBL (areas (take 8 (ten capacities)) widths) 12 p (entries 9 (tablesOf capacities counts) words) t in
-        (omega (arith, i .0, o .inside), omega (arith, i .1, o .most))
+        let o = owned-entries words capacities counts TEMPLATES TTBL refl p (entriesOf words capacities counts TABLES) t in
+        (inside words capacities counts f (place TEMPLATES), o .begins, o .within)
 
-    pub key-found : (key : Key) → found (position (starts (guidWords (key .guid))) 0 (entries 9 (providersOf counts) words)) ≡ founds.Number p
-        → guidsOf words capacities counts key ≡ guidsBy words (templatesOf words capacities counts p) (keyWords key) (eventsOf words capacities counts p)
-    unfolding guidsOf areas flat
-    key-found key f =
-        let h = position-found (starts (guidWords (key .guid))) 0 (entries 9 (providersOf counts) words) p f in
-        let a = owned-entries counts words EVNT (areas (take 5 (ten capacities)) widths) 16 p (entries 9 (tablesOf capacities counts) words) t in
-        let b = owned-entries counts words TTBL (areas (take 8 (ten capacities)) widths) 12 p (entries 9 (tablesOf capacities counts) words) t in
-        rw (h .0)
+    pub part-in : (list templates : Run) → list ≡ runOf capacities counts (place TEMPLATES) → templates ≡ owned words capacities counts p TTBL → Part list templates words
+    part-in list templates g h = rw (g, h) templates-in
+
+  module _ (key : Key) where
+    abbrev searched : List ℕ
+    searched = position (has 0 (guidWords (key .guid))) 0 (entries (width PROVIDERS) (runOf capacities counts (place PROVIDERS)) words)
+
+    providers : searched ≡ position (has 0 (guidWords (key .guid))) 0 (entriesOf words capacities counts PROVIDERS)
+    providers = ap (position (has 0 (guidWords (key .guid))) 0) (whole-entries words capacities counts (place PROVIDERS))
+
+    pub key-found : (p : ℕ) → found searched ≡ founds.Number p → tablesFit counts (entriesOf words capacities counts TABLES) ≡ true
+        → guidsOf words capacities counts key ≡ guidsOwned words capacities counts p key
+    unfolding guidsOf flat
+    key-found p e t =
+        let a = owned-entries words capacities counts EVENTS EVNT refl p (entriesOf words capacities counts TABLES) t in
+        let b = owned-entries words capacities counts TEMPLATES TTBL refl p (entriesOf words capacities counts TABLES) t in
+        rw (position-found (has 0 (guidWords (key .guid))) 0 (entriesOf words capacities counts PROVIDERS) p (ap found (sym providers) ∙ e) .0)
         (append-nil _
-        ∙ ap₂ (λ (ts es : List Entry). once [] (flat (λ e. guidAtOffset ts (wordOf 9 e)) (select (keyed key) es))) (b .equal) (a .equal)
-        ∙ sym (given-once words (templatesOf words capacities counts p) templates-in (keyWords key) (eventsOf words capacities counts p)))
+        ∙ ap₂ (λ (ts es : List Entry). once [] (flat (λ e. guidAtOffset ts (wordOf EVENT-TEMPLATE e)) (select (keyed key) es))) (b .equal) (a .equal)
+        ∙ sym (given-once words (runOf capacities counts (place TEMPLATES)) (owned words capacities counts p TTBL) (templates-in t p) (keyWords key) (owned words capacities counts p EVNT)))
 
-  pub key-none : (key : Key) → found (position (starts (guidWords (key .guid))) 0 (entries 9 (providersOf counts) words)) ≡ founds.Nothing
-      → guidsOf words capacities counts key ≡ []
-  unfolding guidsOf areas flat
-  key-none key f = rw (none-found (position (starts (guidWords (key .guid))) 0 (entries 9 (providersOf counts) words)) f)
+    pub key-none : found searched ≡ founds.Nothing → guidsOf words capacities counts key ≡ []
+    unfolding guidsOf flat
+    key-none e = rw (sym providers ∙ none-found searched e)
+
+-- by the runs that were found
+pub owned-given : (words capacities counts : List ℕ) (p : ℕ) (key : Key) (list templates events : Run) → list ≡ runOf capacities counts (place TEMPLATES)
+    → templates ≡ owned words capacities counts p TTBL → events ≡ owned words capacities counts p EVNT
+    → guidsBy words list templates (keyWords key) events ≡ guidsOwned words capacities counts p key
+owned-given words capacities counts p key list templates events g h e =
+    ap (λ l. guidsBy words l templates (keyWords key) events) g
+    ∙ ap₂ (λ t v. guidsBy words (runOf capacities counts (place TEMPLATES)) t (keyWords key) v) h e
 
 -- where nothing is given, there is room
-pub room-none : (lent : List ℕ) (gs : List Entry) → gs ≡ [] → (guids.Given 0 ≡ guidsFound (roomFor lent gs)) × (lent ≡ guidsHeld lent (roomFor lent gs))
+pub given-none : (lent : List ℕ) (o : Outcome (List Entry)) → o ≡ roomFor lent [] → (guids.Given 0 ≡ guidsFound o) × (lent ≡ guidsHeld lent o)
 unfolding flat laid
-room-none lent gs e =
-    let h : 0 ≤ length lent / 4 = omega arith in
-    let x : roomFor lent gs ≡ done [] = ap (roomFor lent) e ∙ rw (le-leb _ _ h) in
+given-none lent o e =
+    let h : 0 ≤ length lent / GUID = omega arith in
+    let x : o ≡ done [] = e ∙ rw (le-leb _ _ h) in
     (ap guidsFound (sym x), ap (guidsHeld lent) (sym x))
 
 -- a refusal keeps the lent list
-pub key-refused : (lent : List ℕ) (o : Outcome (List Entry)) (q r : Refusal) → q ≡ r → o ≡ refused r → (guids.Refused q ≡ guidsFound o) × (lent ≡ guidsHeld lent o)
-key-refused lent o q r e x = (ap guids.Refused e ∙ ap guidsFound (sym x), ap (guidsHeld lent) (sym x))
+pub refusal-keeps : (lent : List ℕ) (o : Outcome (List Entry)) (q r : Refusal) → q ≡ r → o ≡ refused r → (guids.Refused q ≡ guidsFound o) × (lent ≡ guidsHeld lent o)
+refusal-keeps lent o q r e x = (ap guids.Refused e ∙ ap guidsFound (sym x), ap (guidsHeld lent) (sym x))

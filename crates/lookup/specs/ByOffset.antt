@@ -1,35 +1,41 @@
 -- The lookup by offset, by what was tested.
-use Prim.Native.Nat.{ℕ, _+_, _*_, _≤_, _<_}
-use mathlib.Core.Path.{_≡_, sym}
-use mathlib.Core.Bool.{true, false}
-use mathlib.Core.List.{List}
+use Prim.Native.Nat.{ℕ, _+_, _≤_, _<_}
+use mathlib.Core.Path.{_≡_, refl, ap, sym, _∙_}
+use mathlib.Core.Bool.{_&&_}
+use mathlib.Core.List.{List, [], _∷_}
+use lib.Dec.{leb}
 use lib.ListN.{take}
 use borrow.Author.Tests.{le-leb, lt-leb}
-use Rattle.format.specs.Answer.{areas, widths, ten, own, lent-enough}
-use Rattle.format.specs.Lookup.{counts-fit, byOffset}
-use Rattle.format.specs.declared.Counts.{Counts}
+use Rattle.blob.specs.declared.Refusal.{Refusal}
+use Rattle.blob.specs.declared.Verdict.the-variants as verdicts
+use Rattle.format.specs.Area.{TEMPLATES, rows, place, width, of}
+use Rattle.format.specs.Answer.{areas, own, lent-enough}
+use Rattle.format.specs.Lookup.{counts-fit, numbered, byOffset}
 use Rattle.format.specs.declared.TemplateFound.the-variants as template
-use Rattle.lookup.specs.Entries.{part-entries}
-use Rattle.lookup.specs.Found.{found, shown, shown-found, lowest}
+use Rattle.lists.specs.Entries.{part-entries}
+use Rattle.lists.specs.Fit.{refused-as, refused-further}
+use Rattle.lists.specs.Found.{found, lowest, fit, Fit}
+use Rattle.lookup.specs.Given.{shown}
 
-module _ (words : List ℕ) (capacities counts : Counts) (first count offset : ℕ) where
-  pub offset-8 : lent-enough capacities words ≡ false → byOffset words capacities counts first count offset ≡ template.Refused (own 8)
+shown-found : (ns : List ℕ) → shown (found ns) ≡ numbered ns
+shown-found [] = refl
+shown-found (n ∷ ns) = refl
+
+module _ (words capacities counts : List ℕ) (first count offset : ℕ) where
+  pub offset-refused : (r : Refusal) → fit words capacities counts ≡ verdicts.Refused r → byOffset words capacities counts first count offset ≡ template.Refused r
   unfolding byOffset
-  offset-8 l = rw l
+  offset-refused r e =
+      refused-as template.Refused _ (lent-enough capacities words) (counts-fit counts capacities && leb (first + count) (of TEMPLATES counts)) r
+      (refused-further (lent-enough capacities words) (counts-fit counts capacities) _ r e)
 
-  pub offset-over : lent-enough capacities words ≡ true → counts-fit (ten counts) (ten capacities) ≡ false
-      → byOffset words capacities counts first count offset ≡ template.Refused (own 10)
+  pub offset-past : Fit words capacities counts → of TEMPLATES counts < first + count → byOffset words capacities counts first count offset ≡ template.Refused (own 10)
   unfolding byOffset
-  offset-over l e = rw (l, e)
+  offset-past f h = rw (f .0, f .1, lt-leb _ _ h)
 
-  pub offset-past : lent-enough capacities words ≡ true → counts-fit (ten counts) (ten capacities) ≡ true → counts .templates < first + count
-      → byOffset words capacities counts first count offset ≡ template.Refused (own 10)
-  unfolding byOffset
-  offset-past l e h = rw (l, e, lt-leb _ _ h)
-
-  pub offset-found : lent-enough capacities words ≡ true → counts-fit (ten counts) (ten capacities) ≡ true → first + count ≤ counts .templates
+  pub offset-found : Fit words capacities counts → first + count ≤ of TEMPLATES counts
       → byOffset words capacities counts first count offset
-      ≡ shown (found (lowest words (record { at = areas (take 8 (ten capacities)) widths + 12 * first; count = count }) first offset))
+      ≡ shown (found (lowest words (record { start = areas rows (take (place TEMPLATES) capacities); first = first; count = count }) offset))
   unfolding byOffset
-  offset-found l e h =
-      rw (l, e, le-leb _ _ h, part-entries 12 words first count (counts .templates) (areas (take 8 (ten capacities)) widths) h) (sym (shown-found (lowest words (record { at = areas (take 8 (ten capacities)) widths + 12 * first; count = count }) first offset)))
+  offset-found f h =
+      rw (f .0, f .1, le-leb _ _ h, part-entries (width TEMPLATES) words first count (of TEMPLATES counts) (areas rows (take (place TEMPLATES) capacities)) h)
+      (sym (shown-found (lowest words (record { start = areas rows (take (place TEMPLATES) capacities); first = first; count = count }) offset)))

@@ -1,186 +1,223 @@
--- The templates that events give, each GUID once: what is marked is what was given.
+-- What the code speaks of: the templates that events give, each GUID once. Templates have their numbers in list 9, whatever provider has
+-- them, and what was given is marked by these.
 use Prim.{Unit}
-use Prim.Native.Nat.{ℕ, suc, _+_, _*_, _-_, _/_, _≤_, _<_}
+use Prim.Native.Nat.{ℕ, zero, suc, _+_, _*_, _-_, _/_, _≤_, _<_, min}
 use mathlib.Core.Path.{_≡_, refl, ap, ap₂, sym, _∙_}
 use mathlib.Core.Bool.{Bool, true, false, not, _&&_}
 use mathlib.Core.List.{List, [], _∷_, _++_, map}
 use native.Mathlib.Omega.{arith}
-use lib.ListN.{length, getD, take, drop, length-take, length-drop, length-map, replicate}
+use lib.ListN.{length, getD, take, drop, set, length-take, length-drop, length-map, replicate}
+use lib.Seq.{take-take}
 use lib.Dec.{eqb, leb}
-use borrow.Author.Tests.{le-leb, lt-leb, leb-false}
-use Rattle.blob.specs.Reading.{done, refused, choose}
-use Rattle.format.specs.Answer.{too-small}
+use borrow.Author.Tests.{eq-eqb, ne-eqb, le-leb, lt-leb}
+use Rattle.blob.specs.Reading.{Outcome, done, refused, choose}
 use Rattle.blob.specs.Laid.{laid, laid-more, flat, flat-map}
+use Rattle.format.specs.Area.{EVENTS, TEMPLATES, place, width}
+use Rattle.format.specs.Entry.{GUID, KEY, EVENT-TEMPLATE, TEMPLATE-GUID}
+use Rattle.format.specs.Table.{EVNT, TTBL}
+use Rattle.format.specs.Answer.{too-small}
 use Rattle.format.specs.Lists.{Entry}
-use Rattle.format.specs.Lookup.{entriesFrom, alike, position}
-use Rattle.lookup.specs.declared.Found.the-variants as founds
+use Rattle.format.specs.Lookup.{entriesFrom, wordOf, alike, position, keyWords}
+use Rattle.format.specs.declared.Key.{Key}
+use Rattle.format.specs.declared.TemplateFound.{TemplateFound}
+use Rattle.format.specs.declared.TemplateFound.the-variants as template
+use Rattle.lists.specs.declared.Found.{Found}
+use Rattle.lists.specs.declared.Found.the-variants as founds
+use Rattle.lists.specs.declared.Run.{Run}
+use Rattle.lists.specs.Entries.{entries-length, word-at}
+use Rattle.lists.specs.Found.{entries, found, lowest, runOf, owned}
+use Rattle.lists.specs.Search.{told as single, nothing-found, same-found, position-found, position-single}
 use Rattle.lookup.specs.declared.Next.{Next}
 use Rattle.lookup.specs.declared.Next.the-variants as nexts
-use Rattle.lookup.specs.declared.Run.{Run}
-use Rattle.lookup.specs.Entries.{entries-length}
-use Rattle.lookup.specs.Found.{entries, few, found, lowest, numberOf, numberAt, unmarked, markedOne, markedFrom, guidOf, marked, roomFor}
+
+-- as the answer of the lookup by offset
+abbrev pub shown : Found → TemplateFound
+shown founds.Nothing = template.Nothing
+shown (founds.Number n) = template.Number n
+
+-- list 9, whole, in the words; and a run of it
+abbrev pub Listed : Run → List ℕ → Type 0
+Listed list words = (list .start + width TEMPLATES * list .count ≤ length words) × (list .count ≤ 65536)
+
+abbrev pub Part : Run → Run → List ℕ → Type 0
+Part list templates words = Listed list words × (templates .start ≡ list .start) × (templates .first + templates .count ≤ list .count)
+
+-- the GUID of a template, by its number in list 9
+abbrev pub guidOf : List ℕ → Run → ℕ → List ℕ
+guidOf words list n = take GUID (drop (list .start + width TEMPLATES * n + TEMPLATE-GUID) words)
+
+-- the number of the template that an event gives, of some templates; none or one
+abbrev pub numberOf : List ℕ → Run → List ℕ → Entry → List ℕ
+numberOf words templates key e =
+    choose (alike (take KEY e) key && not (eqb (wordOf EVENT-TEMPLATE e) 0)) (lowest words templates (wordOf EVENT-TEMPLATE e)) []
+
+-- by the event's place
+abbrev pub numberAt : List ℕ → Run → List ℕ → ℕ → List ℕ
+numberAt words templates key at = numberOf words templates key (take (width EVENTS) (drop at words))
 
 -- the numbers of the templates that events give
 abbrev pub numbers : List ℕ → Run → List ℕ → Run → List ℕ
-numbers words templates key events = flat (numberOf words templates key) (entries 16 events words)
+numbers words templates key events = flat (numberOf words templates key) (entries (width EVENTS) events words)
 
--- those of them whose GUID was not marked, nor given by one before
+-- a template that was found, where it is not marked
+abbrev pub unmarked : List Bool → Found → Found
+unmarked marks founds.Nothing = founds.Nothing
+unmarked marks (founds.Number n) = choose (getD marks n false) founds.Nothing (founds.Number n)
+
+-- a mark, with some words at a place that are a GUID that is given; marks of some templates, so; and of all in list 9
+abbrev pub markOf : List ℕ → List ℕ → ℕ → ℕ → List Bool → Bool
+markOf words guid at i marks = choose (alike (take (length guid) (drop at words)) guid) true (getD marks i false)
+
+unfoldable pub markedFrom : List ℕ → List ℕ → ℕ → ℕ → ℕ → List Bool → List Bool
+markedFrom words guid i zero at marks = marks
+markedFrom words guid i (suc n) at marks = markedFrom words guid (i + 1) n (at + width TEMPLATES) (set marks i (markOf words guid (at + TEMPLATE-GUID) i marks))
+
+abbrev pub marked : List ℕ → Run → List ℕ → List Bool → List Bool
+marked words list guid marks = markedFrom words guid 0 (list .count) (list .start) marks
+
+-- of some templates, those whose GUID was not marked, nor given by one before
 unfoldable pub firsts : List ℕ → Run → List Bool → List ℕ → List ℕ
-firsts words templates marks [] = []
-firsts words templates marks (n ∷ ns) =
-    choose (getD marks n false) (firsts words templates marks ns) (n ∷ firsts words templates (marked words templates n marks) ns)
+firsts words list marks [] = []
+firsts words list marks (n ∷ ns) = choose (getD marks n false) (firsts words list marks ns) (n ∷ firsts words list (marked words list (guidOf words list n) marks) ns)
 
 abbrev pub unset : List Bool
 unset = replicate 65536 false
 
--- the templates whose GUIDs some events give, each once
-abbrev pub givenBy : List ℕ → Run → List ℕ → Run → List ℕ
-givenBy words templates key events = firsts words templates unset (numbers words templates key events)
+-- the templates whose GUIDs some events give, each once; and the GUIDs
+abbrev pub givenBy : List ℕ → Run → Run → List ℕ → Run → List ℕ
+givenBy words list templates key events = firsts words list unset (numbers words templates key events)
 
--- and the GUIDs
-abbrev pub guidsBy : List ℕ → Run → List ℕ → Run → List Entry
-guidsBy words templates key events = map (guidOf words templates) (givenBy words templates key events)
+abbrev pub guidsBy : List ℕ → Run → Run → List ℕ → Run → List Entry
+guidsBy words list templates key events = map (guidOf words list) (givenBy words list templates key events)
+
+-- those of a provider's events
+abbrev pub guidsOwned : List ℕ → List ℕ → List ℕ → ℕ → Key → List Entry
+guidsOwned words capacities counts p key =
+    guidsBy words (runOf capacities counts (place TEMPLATES)) (owned words capacities counts p TTBL) (keyWords key) (owned words capacities counts p EVNT)
 
 -- what the next one tells of those that are left, with the marks that are then set
-abbrev pub told : List ℕ → Run → List ℕ → List Bool → Next → List ℕ
-told words templates key marks nexts.Over = []
-told words templates key marks (nexts.Template n rest) = n ∷ firsts words templates marks (numbers words templates key rest)
+abbrev pub told : List ℕ → Run → Run → List ℕ → List Bool → Next → List ℕ
+told words list templates key marks nexts.Over = []
+told words list templates key marks (nexts.Template n rest) = n ∷ firsts words list marks (numbers words templates key rest)
 
 -- the next one is a template, and the events behind it end where all do
 abbrev pub behind : Run → Run → Next → Type 0
-behind events templates nexts.Over = Unit
-behind events templates (nexts.Template n rest) =
-    (n < templates .count) × (rest .count < events .count) × (rest .at + 16 * rest .count ≡ events .at + 16 * events .count)
+behind events list nexts.Over = Unit
+behind events list (nexts.Template n rest) =
+    (n < list .count) × (rest .count < events .count) × (rest .start ≡ events .start) × (rest .first + rest .count ≡ events .first + events .count)
 
--- a number, or one more than the most that is asked for
-abbrev pub upTo : ℕ → ℕ → ℕ
-upTo most n = choose (leb n most) n (most + 1)
+-- GUIDs, where a lent list has room for them; else 9
+abbrev pub roomFor : List ℕ → List Entry → Outcome (List Entry)
+roomFor lent gs = choose (leb (length gs) (length lent / GUID)) (done gs) (refused (too-small 11 (length lent / GUID)))
 
--- what was found tells the list
-pub none-found : (ns : List ℕ) → found ns ≡ founds.Nothing → ns ≡ []
-none-found [] e = refl
-none-found (n ∷ ns) e = absurd (let z : _≡_ {A = ℕ} 0 1 = cc in omega arith)
+-- What an event gives, by what was tested of it: another key, no offset, or a template.
+module _ (words : List ℕ) (templates : Run) (key : List ℕ) (at : ℕ) (k : length key ≡ KEY) where
+  number-at : numberAt words templates key at
+      ≡ choose (alike (take (length key) (drop at words)) key && not (eqb (getD words (at + EVENT-TEMPLATE) 0) 0)) (lowest words templates (getD words (at + EVENT-TEMPLATE) 0)) []
+  number-at = rw (k, take-take KEY (width EVENTS) (drop at words) (omega arith), word-at (width EVENTS) words EVENT-TEMPLATE at (omega arith))
 
-pub first-found : (ns : List ℕ) (n : ℕ) → found ns ≡ founds.Number n → (ms : List ℕ) × (ns ≡ n ∷ ms)
-first-found [] n e = absurd (let z : _≡_ {A = ℕ} 0 1 = cc in omega arith)
-first-found (m ∷ ns) n e = (ns, cc)
+  pub number-other : alike (take (length key) (drop at words)) key ≡ false → numberAt words templates key at ≡ []
+  number-other e = number-at ∙ rw e
 
--- a search gives one number at most, of an entry
-pub position-found : (p : Entry → Bool) (k : ℕ) (es : List Entry) (n : ℕ) → found (position p k es) ≡ founds.Number n
-    → (position p k es ≡ n ∷ []) × (k ≤ n) × (n < k + length es)
-unfolding position
-position-found p k [] n e = absurd (let z : _≡_ {A = ℕ} 0 1 = cc in omega arith)
-position-found p k (x ∷ es) n e = go (p x) e (position-found p (suc k) es n)
-  where
-    go : (t : Bool) → found (choose t (k ∷ []) (position p (suc k) es)) ≡ founds.Number n
-        → (found (position p (suc k) es) ≡ founds.Number n → (position p (suc k) es ≡ n ∷ []) × (suc k ≤ n) × (n < suc k + length es))
-        → (choose t (k ∷ []) (position p (suc k) es) ≡ n ∷ []) × (k ≤ n) × (n < k + suc (length es))
-    go true e ih = let q : k ≡ n = cc in (cc, omega arith, omega arith)
-    go false e ih = let h = ih e in (h .0, omega arith, omega arith)
+  pub number-none : alike (take (length key) (drop at words)) key ≡ true → getD words (at + EVENT-TEMPLATE) 0 ≡ 0 → numberAt words templates key at ≡ []
+  number-none e h = number-at ∙ rw (e, eq-eqb _ _ h)
 
--- an event gives one template at most
-pub number-found : (words : List ℕ) (templates : Run) (key : List ℕ) (e : Entry) (n : ℕ) → found (numberOf words templates key e) ≡ founds.Number n
-    → (numberOf words templates key e ≡ n ∷ []) × (n < templates .count)
-number-found words templates key e n h = go (alike (take 8 e) key && not (eqb (getD e 9 0) 0)) h
-  where
-    go : (t : Bool) → found (choose t (lowest words templates 0 (getD e 9 0)) []) ≡ founds.Number n
-        → (choose t (lowest words templates 0 (getD e 9 0)) [] ≡ n ∷ []) × (n < templates .count)
-    go true h =
-        let f = position-found (λ t. eqb (getD t 0 0) (getD e 9 0)) 0 (entries 12 templates words) n h in
-        (f .0, omega (arith, f .2, entries-length 12 words (templates .count) (templates .at)))
-    go false h = absurd (let z : _≡_ {A = ℕ} 0 1 = cc in omega arith)
+  pub number-some : alike (take (length key) (drop at words)) key ≡ true → (getD words (at + EVENT-TEMPLATE) 0 ≡ 0 → ⊥)
+      → numberAt words templates key at ≡ lowest words templates (getD words (at + EVENT-TEMPLATE) 0)
+  number-some e h = number-at ∙ rw (e, ne-eqb _ _ h)
 
--- what is found of a template, by whether it is marked
-module _ (marks : List Bool) (ns : List ℕ) where
-  pub fresh-none : found ns ≡ founds.Nothing → found (unmarked marks ns) ≡ founds.Nothing
-  fresh-none e = ap (λ l. found (unmarked marks l)) (none-found ns e)
+-- an event gives one template at most, of the run
+module _ (words : List ℕ) (templates : Run) (key : List ℕ) (e : Entry) where
+  pub number-single : numberOf words templates key e ≡ single (found (numberOf words templates key e))
+  number-single = go (alike (take KEY e) key && not (eqb (wordOf EVENT-TEMPLATE e) 0))
+    where
+      go : (t : Bool) → choose t (lowest words templates (wordOf EVENT-TEMPLATE e)) [] ≡ single (found (choose t (lowest words templates (wordOf EVENT-TEMPLATE e)) []))
+      go true = position-single _ (templates .first) (entries (width TEMPLATES) templates words)
+      go false = refl
 
-  pub fresh-marked : (n : ℕ) → found ns ≡ founds.Number n → getD marks n false ≡ true → found (unmarked marks ns) ≡ founds.Nothing
-  fresh-marked n e m = ap (λ l. found (unmarked marks l)) (first-found ns n e .1) ∙ rw m
-
-  pub fresh-number : (n : ℕ) → found ns ≡ founds.Number n → getD marks n false ≡ false → found (unmarked marks ns) ≡ founds.Number n
-  fresh-number n e m = ap (λ l. found (unmarked marks l)) (first-found ns n e .1) ∙ rw m
+  pub number-below : (n : ℕ) → found (numberOf words templates key e) ≡ founds.Number n → n < templates .first + templates .count
+  number-below n h = go (alike (take KEY e) key && not (eqb (wordOf EVENT-TEMPLATE e) 0)) h
+    where
+      go : (t : Bool) → found (choose t (lowest words templates (wordOf EVENT-TEMPLATE e)) []) ≡ founds.Number n → n < templates .first + templates .count
+      go true h =
+          omega (arith, position-found _ (templates .first) (entries (width TEMPLATES) templates words) n h .2, entries-length (width TEMPLATES) words (templates .count) (templates .start + width TEMPLATES * templates .first))
+      go false h = absurd (nothing-found n h)
 
 -- Of templates that are marked, those that are left decide.
 module _ (words guid : List ℕ) (i left at : ℕ) (marks : List Bool) where
-  pub marked-more : 0 < left → (marks' : List Bool) → marks' ≡ markedOne words guid (at + 6) i marks
-      → markedFrom words guid i left at marks ≡ markedFrom words guid (i + 1) (left - 1) (at + 12) marks'
+  pub marked-more : 0 < left → (marks' : List Bool) → marks' ≡ set marks i (markOf words guid (at + TEMPLATE-GUID) i marks)
+      → markedFrom words guid i left at marks ≡ markedFrom words guid (i + 1) (left - 1) (at + width TEMPLATES) marks'
   unfolding markedFrom
   marked-more h marks' e =
       let m : left ≡ suc (left - 1) = omega arith in
-      ap (λ (l : ℕ). markedFrom words guid i l at marks) m ∙ ap (markedFrom words guid (i + 1) (left - 1) (at + 12)) (sym e)
+      ap (λ (l : ℕ). markedFrom words guid i l at marks) m ∙ ap (markedFrom words guid (i + 1) (left - 1) (at + width TEMPLATES)) (sym e)
 
   pub marked-none : left ≤ 0 → markedFrom words guid i left at marks ≡ marks
   unfolding markedFrom
   marked-none h = let m : left ≡ 0 = omega arith in rw m
 
 -- Of events that are left, the next one decides: it gives nothing, or what is marked, or a template whose GUID is new.
-module _ (words : List ℕ) (templates : Run) (marks : List Bool) where
-  skip : (ns rest : List ℕ) → ((n : ℕ) → found ns ≡ founds.Number n → ns ≡ n ∷ []) → found (unmarked marks ns) ≡ founds.Nothing
-      → firsts words templates marks (ns ++ rest) ≡ firsts words templates marks rest
+module _ (words : List ℕ) (list : Run) (marks : List Bool) where
+  skip : (f : Found) (rest : List ℕ) → unmarked marks f ≡ founds.Nothing → firsts words list marks (single f ++ rest) ≡ firsts words list marks rest
   unfolding firsts
-  skip [] rest one e = refl
-  skip (m ∷ ns) rest one e = let z : ns ≡ [] = cc (one m refl) in rw z (go (getD marks m false) e)
+  skip founds.Nothing rest e = refl
+  skip (founds.Number m) rest e = go (getD marks m false) e
     where
-      go : (t : Bool) → found (choose t [] (m ∷ [])) ≡ founds.Nothing
-          → choose t (firsts words templates marks rest) (m ∷ firsts words templates (marked words templates m marks) rest) ≡ firsts words templates marks rest
+      go : (t : Bool) → choose t founds.Nothing (founds.Number m) ≡ founds.Nothing
+          → choose t (firsts words list marks rest) (m ∷ firsts words list (marked words list (guidOf words list m) marks) rest) ≡ firsts words list marks rest
       go true e = refl
-      go false e = absurd (let z : _≡_ {A = ℕ} 0 1 = cc in omega arith)
+      go false e = absurd (nothing-found m (sym e))
 
-  give : (ns rest : List ℕ) (n : ℕ) → ((n : ℕ) → found ns ≡ founds.Number n → ns ≡ n ∷ []) → found (unmarked marks ns) ≡ founds.Number n
-      → (firsts words templates marks (ns ++ rest) ≡ n ∷ firsts words templates (marked words templates n marks) rest) × (ns ≡ n ∷ [])
+  give : (f : Found) (rest : List ℕ) (n : ℕ) → unmarked marks f ≡ founds.Number n
+      → (firsts words list marks (single f ++ rest) ≡ n ∷ firsts words list (marked words list (guidOf words list n) marks) rest) × (f ≡ founds.Number n)
   unfolding firsts
-  give [] rest n one e = absurd (let z : _≡_ {A = ℕ} 0 1 = cc in omega arith)
-  give (m ∷ ns) rest n one e = let z : ns ≡ [] = cc (one m refl) in rw z (go (getD marks m false) e)
+  give founds.Nothing rest n e = absurd (nothing-found n e)
+  give (founds.Number m) rest n e = go (getD marks m false) e
     where
-      go : (t : Bool) → found (choose t [] (m ∷ [])) ≡ founds.Number n
-          → (choose t (firsts words templates marks rest) (m ∷ firsts words templates (marked words templates m marks) rest)
-          ≡ n ∷ firsts words templates (marked words templates n marks) rest) × (_≡_ {A = List ℕ} (m ∷ []) (n ∷ []))
-      go true e = absurd (let z : _≡_ {A = ℕ} 0 1 = cc in omega arith)
-      go false e = let q : m ≡ n = cc in (rw q, cc)
+      go : (t : Bool) → choose t founds.Nothing (founds.Number m) ≡ founds.Number n
+          → (choose t (firsts words list marks rest) (m ∷ firsts words list (marked words list (guidOf words list m) marks) rest) ≡ n ∷ firsts words list (marked words list (guidOf words list n) marks) rest)
+          × (founds.Number m ≡ founds.Number n)
+      go true e = absurd (nothing-found n e)
+      go false e = (ap (λ k. k ∷ firsts words list (marked words list (guidOf words list k) marks) rest) (same-found m n e), e)
 
-module _ (words : List ℕ) (templates : Run) (key : List ℕ) (marks : List Bool) (left at : ℕ) (h : 0 < left) where
-  numbers-more : numbers words templates key (record { at = at; count = left })
-      ≡ numberAt words templates key at ++ numbers words templates key (record { at = at + 16; count = left - 1 })
+module _ (words : List ℕ) (list templates : Run) (key : List ℕ) (marks : List Bool) (start first left at : ℕ) (h : 0 < left) (a : at ≡ start + width EVENTS * first) where
+  numbers-more : numbers words templates key (record { start = start; first = first; count = left })
+      ≡ single (found (numberAt words templates key at)) ++ numbers words templates key (record { start = start; first = first + 1; count = left - 1 })
   unfolding entriesFrom flat
-  numbers-more = let m : left ≡ suc (left - 1) = omega arith in ap (λ (l : ℕ). flat (numberOf words templates key) (entriesFrom 16 l at words)) m
+  numbers-more =
+      let m : left ≡ suc (left - 1) = omega arith in
+      let b : at + width EVENTS ≡ start + width EVENTS * (first + 1) = omega arith in
+      ap₂ (λ l p. flat (numberOf words templates key) (entriesFrom (width EVENTS) l p words)) m (sym a)
+      ∙ ap₂ (λ (ns : List ℕ) (p : ℕ). ns ++ flat (numberOf words templates key) (entriesFrom (width EVENTS) (left - 1) p words))
+      (number-single words templates key (take (width EVENTS) (drop at words))) b
 
-  pub next-skip : found (unmarked marks (numberAt words templates key at)) ≡ founds.Nothing
-      → firsts words templates marks (numbers words templates key (record { at = at; count = left }))
-      ≡ firsts words templates marks (numbers words templates key (record { at = at + 16; count = left - 1 }))
-  next-skip e =
-      ap (firsts words templates marks) numbers-more
-      ∙ skip words templates marks (numberAt words templates key at) _ (λ n f. number-found words templates key (take 16 (drop at words)) n f .0) e
+  pub next-skip : unmarked marks (found (numberAt words templates key at)) ≡ founds.Nothing
+      → firsts words list marks (numbers words templates key (record { start = start; first = first; count = left }))
+      ≡ firsts words list marks (numbers words templates key (record { start = start; first = first + 1; count = left - 1 }))
+  next-skip e = ap (firsts words list marks) numbers-more ∙ skip words list marks (found (numberAt words templates key at)) _ e
 
-  pub next-give : (n : ℕ) (marks' : List Bool) → found (unmarked marks (numberAt words templates key at)) ≡ founds.Number n → marks' ≡ marked words templates n marks
-      → firsts words templates marks (numbers words templates key (record { at = at; count = left }))
-      ≡ n ∷ firsts words templates marks' (numbers words templates key (record { at = at + 16; count = left - 1 }))
+  pub next-give : (n : ℕ) (marks' : List Bool) → unmarked marks (found (numberAt words templates key at)) ≡ founds.Number n → marks' ≡ marked words list (guidOf words list n) marks
+      → firsts words list marks (numbers words templates key (record { start = start; first = first; count = left }))
+      ≡ n ∷ firsts words list marks' (numbers words templates key (record { start = start; first = first + 1; count = left - 1 }))
   next-give n marks' e m =
-      ap (firsts words templates marks) numbers-more
-      ∙ give words templates marks (numberAt words templates key at) _ n (λ n f. number-found words templates key (take 16 (drop at words)) n f .0) e .0
-      ∙ ap (λ (ms : List Bool). n ∷ firsts words templates ms (numbers words templates key (record { at = at + 16; count = left - 1 }))) (sym m)
+      ap (firsts words list marks) numbers-more
+      ∙ give words list marks (found (numberAt words templates key at)) _ n e .0
+      ∙ ap (λ (ms : List Bool). n ∷ firsts words list ms (numbers words templates key (record { start = start; first = first + 1; count = left - 1 }))) (sym m)
 
-  pub next-below : (n : ℕ) → found (unmarked marks (numberAt words templates key at)) ≡ founds.Number n → n < templates .count
-  next-below n e =
-      let g = give words templates marks (numberAt words templates key at) [] n (λ n f. number-found words templates key (take 16 (drop at words)) n f .0) e in
-      number-found words templates key (take 16 (drop at words)) n (ap found (g .1)) .1
+pub next-below : (words : List ℕ) (templates : Run) (key : List ℕ) (marks : List Bool) (at n : ℕ) → unmarked marks (found (numberAt words templates key at)) ≡ founds.Number n
+    → n < templates .first + templates .count
+next-below words templates key marks at n e =
+    number-below words templates key (take (width EVENTS) (drop at words)) n (give words templates marks (found (numberAt words templates key at)) [] n e .1)
 
-pub next-none : (words : List ℕ) (templates : Run) (key : List ℕ) (marks : List Bool) (left at : ℕ) → left ≤ 0
-    → firsts words templates marks (numbers words templates key (record { at = at; count = left })) ≡ []
+pub next-none : (words : List ℕ) (list templates : Run) (key : List ℕ) (marks : List Bool) (start first left : ℕ) → left ≤ 0
+    → firsts words list marks (numbers words templates key (record { start = start; first = first; count = left })) ≡ []
 unfolding firsts entriesFrom flat
-next-none words templates key marks left at h = let m : left ≡ 0 = omega arith in rw m
-
--- a number that was counted whole, and one that was not
-pub upTo-all : (most n total : ℕ) → total ≡ n → n ≤ most → n ≡ upTo most total
-upTo-all most n total e h = rw (e, le-leb n most h)
-
-pub upTo-more : (most n total : ℕ) → most < n → n ≤ most + 1 → n ≤ total → n ≡ upTo most total
-upTo-more most n total h g k = let e : most < total = omega arith in rw (lt-leb total most e) (omega arith)
+next-none words list templates key marks start first left h = let m : left ≡ 0 = omega arith in rw m
 
 -- Of GUIDs that are stored, those that are left decide.
 module _ (G : ℕ → List ℕ) (guids : List ℕ) (to : ℕ) (ns : List ℕ) where
-  pub guids-more : (n : ℕ) (ms guids' : List ℕ) → ns ≡ n ∷ ms → guids' ≡ laid guids to (G n) → length (G n) ≡ 4
-      → laid guids to (flat G ns) ≡ laid guids' (to + 4) (flat G ms)
+  pub guids-more : (n : ℕ) (ms guids' : List ℕ) → ns ≡ n ∷ ms → guids' ≡ laid guids to (G n) → length (G n) ≡ GUID
+      → laid guids to (flat G ns) ≡ laid guids' (to + GUID) (flat G ms)
   unfolding flat
   guids-more n ms guids' e g l =
       ap (λ (x : List ℕ). laid guids to (flat G x)) e
@@ -191,43 +228,27 @@ module _ (G : ℕ → List ℕ) (guids : List ℕ) (to : ℕ) (ns : List ℕ) wh
   unfolding flat laid
   guids-none e = rw e
 
-pub guid-length : (words : List ℕ) (templates : Run) (n : ℕ) → few 12 templates words → n < templates .count → length (guidOf words templates n) ≡ 4
-guid-length words templates n f h = simp (length-take, length-drop) (omega (arith, f))
+pub guid-length : (words : List ℕ) (list : Run) (n : ℕ) → Listed list words → n < list .count → length (guidOf words list n) ≡ GUID
+guid-length words list n f h = simp (length-take, length-drop) (omega (arith, f))
 
 -- What is given, by the number that was counted: too many for the lent list, or all.
-module _ (words : List ℕ) (templates : Run) (key : List ℕ) (events : Run) (lent : List ℕ) (n : ℕ)
-    (e : n ≡ upTo (length lent / 4) (length (givenBy words templates key events))) where
-  counted : length (guidsBy words templates key events) ≡ length (givenBy words templates key events)
-  counted = length-map (givenBy words templates key events) (guidOf words templates)
+module _ (words : List ℕ) (list templates : Run) (key : List ℕ) (events : Run) (lent : List ℕ) (n : ℕ)
+    (e : n ≡ min (length (givenBy words list templates key events)) (length lent / GUID + 1)) where
+  counted : length (guidsBy words list templates key events) ≡ length (givenBy words list templates key events)
+  counted = length-map (givenBy words list templates key events) (guidOf words list)
 
-  over : (most total : ℕ) → most < upTo most total → most < total
-  over most total h = go (leb total most) refl h
-    where
-      go : (t : Bool) → leb total most ≡ t → most < choose t total (most + 1) → most < total
-      go true b h = h
-      go false b h = leb-false total most b
-
-  within : (most total : ℕ) → upTo most total ≤ most → (upTo most total ≡ total) × (total ≤ most)
-  within most total h = go (leb total most) refl h
-    where
-      go : (t : Bool) → leb total most ≡ t → choose t total (most + 1) ≤ most → (choose t total (most + 1) ≡ total) × (total ≤ most)
-      go true b h = (refl, h)
-      go false b h = absurd (omega arith)
-
-  pub give-short : length lent / 4 < n → roomFor lent (guidsBy words templates key events) ≡ refused (too-small 11 (length lent / 4))
+  pub give-short : length lent / GUID < n → roomFor lent (guidsBy words list templates key events) ≡ refused (too-small 11 (length lent / GUID))
   give-short h =
-      let o = over (length lent / 4) (length (givenBy words templates key events)) (rw e at h) in
-      let l : length lent / 4 < length (guidsBy words templates key events) = omega (arith, counted, o) in
+      let l : length lent / GUID < length (guidsBy words list templates key events) = omega (arith, counted) in
       rw (lt-leb _ _ l)
 
-  pub give-all : n ≤ length lent / 4
-      → (roomFor lent (guidsBy words templates key events) ≡ done (guidsBy words templates key events))
-      × (n ≡ length (guidsBy words templates key events)) × (4 * length (givenBy words templates key events) ≤ length lent)
+  pub give-all : n ≤ length lent / GUID
+      → (roomFor lent (guidsBy words list templates key events) ≡ done (guidsBy words list templates key events))
+      × (n ≡ length (guidsBy words list templates key events)) × (GUID * length (givenBy words list templates key events) ≤ length lent)
   give-all h =
-      let w = within (length lent / 4) (length (givenBy words templates key events)) (rw e at h) in
-      let l : length (guidsBy words templates key events) ≤ length lent / 4 = omega (arith, counted, w .1) in
-      (rw (le-leb _ _ l), e ∙ w .0 ∙ sym counted, omega (arith, w .1))
+      let l : length (guidsBy words list templates key events) ≤ length lent / GUID = omega (arith, counted) in
+      (rw (le-leb _ _ l), omega (arith, counted), omega arith)
 
 -- the words of GUIDs that are stored one by one
-pub stored-guids : (words : List ℕ) (templates : Run) (ns : List ℕ) → flat (guidOf words templates) ns ≡ flat (λ g. g) (map (guidOf words templates) ns)
-stored-guids words templates ns = sym (flat-map (λ (g : Entry). g) (guidOf words templates) ns)
+pub stored-guids : (words : List ℕ) (list : Run) (ns : List ℕ) → flat (guidOf words list) ns ≡ flat (λ g. g) (map (guidOf words list) ns)
+stored-guids words list ns = sym (flat-map (λ (g : Entry). g) (guidOf words list) ns)

@@ -1,4 +1,3 @@
 pub mod Read
-pub mod Areas
 pub mod Walked
 pub mod Stored

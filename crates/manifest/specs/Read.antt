@@ -11,37 +11,27 @@ use Rattle.blob.specs.declared.Refusal.{Refusal}
 use Rattle.blob.specs.declared.Verdict.{Verdict}
 use Rattle.blob.specs.declared.Verdict.the-variants as verdicts
 use Rattle.blob.specs.Reading.{Reading, Outcome, done, refused, choose, run, many, then, values}
-use Rattle.blob.specs.Laws.{choose-done, run-room, run-past}
+use Rattle.blob.specs.Laws.{both, choose-done, run-room, run-past}
 use Rattle.blob.specs.Finds.{Finds, finds-got, finds-room, finds-demand, finds-next}
 use Rattle.format.specs.Field.{CRIM-provider-descriptor-array}
 use Rattle.format.specs.Refuse.{truncated}
 use Rattle.format.specs.Definition.{step}
 use Rattle.format.specs.Provider.{Provider}
 use Rattle.format.specs.Crim.{Crim, header, crimRead, describedAt, providersOf, crim}
+use Rattle.format.specs.Area.{Row, rows}
 use Rattle.format.specs.Lists.{Entry, lists}
-use Rattle.format.specs.Answer.{ten, own, too-small, moderate, lent-enough, with-room, block, reading, capped}
+use Rattle.areas.specs.Areas.{providers}
+use Rattle.format.specs.Answer.{own, too-small, moderate, lent-enough, with-room, block, reading, counted, capped}
 use Rattle.format.specs.declared.CrimHeader.{CrimHeader}
 use Rattle.format.specs.declared.CrimRead.the-variants as headers
-use Rattle.format.specs.declared.Counts.{Counts}
 use Rattle.counts.specs.Short.{short}
-
--- n providers, and what is read of them
-abbrev pub providers : ℕ → Reading (List Provider)
-providers n = many describedAt (step 20) n 16
-
-abbrev pub providersIn : ℕ → List ℕ → List Provider
-providersIn n s = values (run (providers n) s)
-
--- each list has room for its entries
-abbrev pub roomy : Counts → List Provider → Type 0
-roomy c ps = with-room {A = ℕ} 1 (ten c) (lists ps) 0 ≡ done 0
 
 -- what is read of the block behind its header, whatever is lent, and with capacities
 unfoldable pub blockOf : CrimHeader → List ℕ → Outcome Crim
 blockOf h s = then (run (providersOf h) s) (λ ps. done (record { header = h; providers = ps }))
 
-unfoldable pub blockReading : CrimHeader → List ℕ → Counts → Outcome Crim
-blockReading h s capacities = then (run (providersOf h) s) (λ ps. with-room 1 (ten capacities) (lists ps) (record { header = h; providers = ps }))
+unfoldable pub blockReading : CrimHeader → List ℕ → List ℕ → Outcome Crim
+blockReading h s capacities = then (run (providersOf h) s) (λ ps. with-room rows capacities (lists ps) (record { header = h; providers = ps }))
 
 module _ (bytes : List ℕ) where
   pub block-long : 16777216 < length bytes → block bytes ≡ refused (own 7)
@@ -57,7 +47,7 @@ module _ (bytes : List ℕ) where
     unfolding block crim then blockOf
     block-headed c f = rw (le-leb _ _ h, f)
 
-module _ (bytes words : List ℕ) (capacities : Counts) where
+module _ (bytes words : List ℕ) (capacities : List ℕ) where
   pub too-long : 16777216 < length bytes → reading bytes words capacities ≡ refused (own 7)
   unfolding reading
   too-long h = rw (lt-leb _ _ h)
@@ -68,7 +58,7 @@ module _ (bytes words : List ℕ) (capacities : Counts) where
     unlent e = rw (le-leb _ _ h, e)
 
     module _ (e : lent-enough capacities words ≡ true) where
-      lent : reading bytes words capacities ≡ then (crim bytes) (λ c. with-room 1 (ten capacities) (lists (c .providers)) c)
+      lent : reading bytes words capacities ≡ then (crim bytes) (λ c. with-room rows capacities (lists (c .providers)) c)
       unfolding reading
       lent = rw (le-leb _ _ h, e)
 
@@ -81,8 +71,8 @@ module _ (bytes words : List ℕ) (capacities : Counts) where
       headed c f = lent ∙ rw f (go (run (providersOf c) (take (c .size) bytes)))
         where
           go : (o : Outcome (List Provider))
-              → then (then o (λ ps. done (record { header = c; providers = ps }))) (λ (d : Crim). with-room 1 (ten capacities) (lists (d .providers)) d)
-              ≡ then o (λ ps. with-room 1 (ten capacities) (lists ps) (record { header = c; providers = ps }))
+              → then (then o (λ ps. done (record { header = c; providers = ps }))) (λ (d : Crim). with-room rows capacities (lists (d .providers)) d)
+              ≡ then o (λ ps. with-room rows capacities (lists ps) (record { header = c; providers = ps }))
           go (done ps) = refl
           go (refused r) = refl
 
@@ -133,13 +123,13 @@ module _ (h : CrimHeader) (s : List ℕ) where
   unfolding blockOf then
   block-done ps e = rw e
 
-  module _ (capacities : Counts) where
+  module _ (capacities : List ℕ) where
     pub reading-refused : (r : Refusal) → run (providersOf h) s ≡ refused r → blockReading h s capacities ≡ refused r
     unfolding blockReading then
     reading-refused r e = rw e
 
     pub reading-done : (ps : List Provider) → run (providersOf h) s ≡ done ps
-        → blockReading h s capacities ≡ with-room 1 (ten capacities) (lists ps) (record { header = h; providers = ps })
+        → blockReading h s capacities ≡ with-room rows capacities (lists ps) (record { header = h; providers = ps })
     unfolding blockReading then
     reading-done ps e = rw e
 
@@ -149,22 +139,20 @@ by-verdict a verdicts.Fine = done a
 by-verdict a (verdicts.Refused r) = refused r
 
 -- the lists' needs, as far as anyone asks, decide: no capacity is over 65,536
-pub room-decides : {A : Type 0} (n : ℕ) (cs : List ℕ) (ls : List (List Entry)) (a : A) → moderate cs ≡ true
-    → with-room n cs ls a ≡ by-verdict a (short n cs (map (λ l. capped (length l)) ls))
+pub room-decides : {A : Type 0} (rs : List Row) (cs : List ℕ) (ls : List (List Entry)) (a : A) → moderate cs ≡ true
+    → with-room rs cs ls a ≡ by-verdict a (short rs cs (map capped (counted ls)))
 unfolding with-room short moderate
-room-decides n [] ls a m = refl
-room-decides n (c ∷ cs) [] a m = refl
-room-decides {A} n (c ∷ cs) (l ∷ ls) a m = go (leb c 65536) refl m (room-decides (suc n) cs ls a)
+room-decides [] cs ls a m = refl
+room-decides (r ∷ rs) [] ls a m = refl
+room-decides (r ∷ rs) (c ∷ cs) [] a m = refl
+room-decides (r ∷ rs) (c ∷ cs) (l ∷ ls) a m = step (leb (length l) c) refl (room-decides rs cs ls a (both (leb c 65536) _ m .1))
   where
-    go : (t : Bool) → leb c 65536 ≡ t → (t && moderate cs) ≡ true
-        → (moderate cs ≡ true → with-room (suc n) cs ls a ≡ by-verdict a (short (suc n) cs (map (λ l. capped (length l)) ls)))
-        → choose (leb (length l) c) (with-room (suc n) cs ls a) (refused (too-small n c))
-        ≡ by-verdict a (choose (leb (capped (length l)) c) (short (suc n) cs (map (λ l. capped (length l)) ls)) (verdicts.Refused (too-small n c)))
-    go true e m ih = step (leb (length l) c) refl
-      where
-        step : (t : Bool) → leb (length l) c ≡ t
-            → choose t (with-room (suc n) cs ls a) (refused (too-small n c))
-            ≡ by-verdict a (choose (leb (capped (length l)) c) (short (suc n) cs (map (λ l. capped (length l)) ls)) (verdicts.Refused (too-small n c)))
-        step true f = let g = leb-true (length l) c f in let i : capped (length l) ≤ c = omega arith in rw (le-leb _ _ i) (ih m)
-        step false f = let g = leb-false (length l) c f in let k = leb-true c 65536 e in let i : c < capped (length l) = omega arith in rw (lt-leb _ _ i)
-    go false e m ih = absurd (let z : _≡_ {A = ℕ} 0 1 = cc in omega arith)
+    step : (t : Bool) → leb (length l) c ≡ t → with-room rs cs ls a ≡ by-verdict a (short rs cs (map capped (counted ls)))
+        → choose t (with-room rs cs ls a) (refused (too-small (r .number) c))
+        ≡ by-verdict a (choose (leb (capped (length l)) c) (short rs cs (map capped (counted ls))) (verdicts.Refused (too-small (r .number) c)))
+    step true f ih = let g = leb-true (length l) c f in let i : capped (length l) ≤ c = omega arith in rw (le-leb _ _ i) ih
+    step false f ih =
+        let g = leb-false (length l) c f in
+        let k = leb-true c 65536 (both _ _ m .0) in
+        let i : c < capped (length l) = omega arith in
+        rw (lt-leb _ _ i)

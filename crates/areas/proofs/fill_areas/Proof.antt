@@ -46,13 +46,14 @@ fill-area-requires c κs =
     let i = l .inv in
     let o = c .before .before .before .before .before in
     let h = c .before .loop-test .taken in
+    let ps = providersIn (o .args .n) (o .args .b .now) in
     let a = areas-step rows (o .args .t4) (l .i) (omega arith) (omega (arith, i .2)) in (
       o .pre .0,
       (
         o .pre .1 .0,
         (
           (h, omega (arith, a, i .3)),
-          (area-fits (o .args .t4) (i .2) _ (lent-both _ _ (o .pre .1 .1 .0 .1) .0) (o .pre .1 .1 .1) (l .i) h, λ z. no-words _ _ (o .pre .1 .1 .0 .0) (l .i) h z),
+          (area-fits (o .args .t4) (i .2) ps (lent-both (o .args .t4) (o .args .words .now) (o .pre .1 .1 .0 .1) .0) (o .pre .1 .1 .1) (l .i) h, λ z. no-words ps (o .args .t3) (o .pre .1 .1 .0 .0) (l .i) h z),
         ),
       ),
     )

@@ -21,8 +21,8 @@ returns : tie.Need-returns
 returns c =
     let t = c .before .before .before in
     let n = t .before .before in
-    let r = n .before .before .needs .ensures in
-    (ap (λ (a : Answer). a .code) r, t .tell .ensures ∙ ap (told _) (n .numbers .ensures ∙ ap numbers r))
+    let r = n .before .before .before .needs .ensures in
+    record { coded = ap (λ (a : Answer). a .code) r; numbered = t .tell .ensures ∙ ap (told _) (n .numbers .ensures ∙ ap numbers r) }
 
 numbers-requires : tie.Need-numbers-requires
 numbers-requires c κs = search needs

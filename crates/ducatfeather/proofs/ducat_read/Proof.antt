@@ -24,8 +24,8 @@ returns : tie.Need-returns
 returns c =
     let t = c .before .before .before in
     let n = t .before .before in
-    let r = n .before .before .before .before .read .ensures in
-    (ap (λ (a : Answer). a .code) (r .0), (t .tell .ensures ∙ ap (told _) (n .numbers .ensures ∙ ap numbers (r .0)), r .1))
+    let r = n .before .before .before .before .before .read .ensures in
+    record { coded = ap (λ (a : Answer). a .code) (r .0); numbered = t .tell .ensures ∙ ap (told _) (n .numbers .ensures ∙ ap numbers (r .0)); kept = r .1 }
 
 numbers-requires : tie.Need-numbers-requires
 numbers-requires c κs = search needs

@@ -28,7 +28,7 @@ returns c =
     let t = c .before .before .before in
     let n = t .before .before in
     let f = n .before .before .template-at .ensures in
-    (c .template-code .ensures ∙ ap (λ x. getD (templateNumbers x) 0 0) f, t .tell .ensures ∙ ap (told _) (n .template-numbers .ensures ∙ ap templateNumbers f))
+    record { coded = c .template-code .ensures ∙ ap (λ x. getD (templateNumbers x) 0 0) f; numbered = t .tell .ensures ∙ ap (told _) (n .template-numbers .ensures ∙ ap templateNumbers f) }
 
 pub ducat-template-at-spec : {M : Type 1} → statement M
 ducat-template-at-spec =

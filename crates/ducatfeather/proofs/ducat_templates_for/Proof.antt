@@ -31,7 +31,7 @@ returns c =
     let t = c .before .before .before in
     let n = t .before .before in
     let f = n .before .before .before .before .templates-for .ensures in
-    (c .guid-code .ensures ∙ ap (λ x. getD (guidNumbers x) 0 0) (f .0), (t .tell .ensures ∙ ap (told _) (n .guid-numbers .ensures ∙ ap guidNumbers (f .0)), f .1))
+    record { coded = c .guid-code .ensures ∙ ap (λ x. getD (guidNumbers x) 0 0) (f .0); numbered = t .tell .ensures ∙ ap (told _) (n .guid-numbers .ensures ∙ ap guidNumbers (f .0)); kept = f .1 }
 
 pub ducat-templates-for-spec : {M : Type 1} → statement M
 ducat-templates-for-spec =

@@ -1,24 +1,19 @@
--- Each number is read at its own place of ten.
-use mathlib.Core.Path.{refl}
-use native.Mathlib.Omega.{arith}
+-- As many as there are.
+use mathlib.Core.Path.{sym, _∙_}
+use Rattle.ducatfeather.specs.Laws.{laid-whole}
+use borrow.Author.Needs.{needs}
+use borrow.Author.Needs.{needs}
 use Rattle.ducatfeather.proofs.for_lists.Statement.{statement}
 use Rattle.ducatfeather.proofs.for_lists.Tie as tie
 
+slice-aggregate-put : tie.Need-slice-aggregate-put
+slice-aggregate-put c = search needs
+
+put-requires : tie.Need-put-requires
+put-requires c κs = search needs
+
 returns : tie.Need-returns
-returns c = refl
+returns c = c .before .put .ensures ∙ laid-whole _ _ (sym (c .before .before .before .before .pre))
 
 pub for-lists-spec : {M : Type 1} → statement M
-for-lists-spec =
-    tie.close
-    (tie.spec
-    (λ c. omega arith)
-    (λ c. omega arith)
-    (λ c. omega arith)
-    (λ c. omega arith)
-    (λ c. omega arith)
-    (λ c. omega arith)
-    (λ c. omega arith)
-    (λ c. omega arith)
-    (λ c. omega arith)
-    (λ c. omega arith)
-    returns)
+for-lists-spec = tie.close (tie.spec slice-aggregate-put put-requires returns)

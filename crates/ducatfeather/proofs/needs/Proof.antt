@@ -12,7 +12,7 @@ needs-requires c κs = search needs
 
 returns : tie.Need-returns
 unfolding calledNeeds
-returns c = rw (eq-eqb _ _ (c .before .if1 .taken)) (c .needs .ensures)
+returns c = rw (eq-eqb _ _ (c .before .if1 .taken)) (c .needs .ensures .answered)
 
 refusal-requires : tie.Need-refusal-requires
 refusal-requires c κs = search needs

@@ -35,7 +35,7 @@ returns-3 c =
     let r = c .before .before in
     let i = r .before .before .before in
     let k = r .before .for-lists .ensures in
-    rw (eq-eqb _ _ (i .before .if1 .left), eq-eqb _ _ (i .if2 .left)) (rw k at (r .read .ensures .0), rw k at (r .read .ensures .1))
+    rw (eq-eqb _ _ (i .before .if1 .left), eq-eqb _ _ (i .if2 .left)) (rw k at (r .read .ensures .answered), rw k at (r .read .ensures .kept))
 
 pub read-spec : {M : Type 1} → statement M
 read-spec =

@@ -3,53 +3,53 @@ use mathlib.Core.Path.{refl, ap, sym, _∙_}
 use borrow.Author.Tests.{eq-eqb, ne-eqb, not-true, not-false}
 use Rattle.format.specs.declared.GuidsFound.the-variants as guids
 use Rattle.ducatfeather.specs.Call.{calledFor}
-use Rattle.ducatfeather.specs.Laws.{ten-of}
+use Rattle.ducatfeather.specs.Laws.{rows-of}
 use borrow.Author.Needs.{needs}
 use Rattle.ducatfeather.proofs.templates_for.Statement.{statement}
 use Rattle.ducatfeather.proofs.templates_for.Tie as tie
 
-ten-each-requires : tie.Need-ten-each-requires
-ten-each-requires c κs = search needs
+each-row-requires : tie.Need-each-row-requires
+each-row-requires c κs = search needs
 
-misfit-requires : tie.Need-misfit-requires
-misfit-requires c κs = search needs
+own-requires : tie.Need-own-requires
+own-requires c κs = search needs
 
 returns : tie.Need-returns
 unfolding calledFor
 returns c =
     let e = c .before .before in
-    rw (sym (e .ten-each .ensures) ∙ not-true _ (c .before .if1 .taken)) (ap guids.Refused (c .misfit .ensures), refl)
+    rw (sym (e .each-row .ensures) ∙ not-true _ (c .before .if1 .taken)) (ap guids.Refused (c .own .ensures), refl)
 
-misfit-requires-2 : tie.Need-misfit-requires-2
-misfit-requires-2 c κs = search needs
+own-requires-2 : tie.Need-own-requires-2
+own-requires-2 c κs = search needs
 
 returns-2 : tie.Need-returns-2
 unfolding calledFor
 returns-2 c =
     let m = c .before in
-    rw (sym (m .before .before .ten-each .ensures) ∙ not-false _ (m .before .if1 .left), ne-eqb _ _ (m .if2 .taken)) (ap guids.Refused (c .misfit2 .ensures), refl)
+    rw (sym (m .before .before .each-row .ensures) ∙ not-false _ (m .before .if1 .left), ne-eqb _ _ (m .if2 .taken)) (ap guids.Refused (c .own2 .ensures), refl)
 
-misfit-requires-3 : tie.Need-misfit-requires-3
-misfit-requires-3 c κs = search needs
+own-requires-3 : tie.Need-own-requires-3
+own-requires-3 c κs = search needs
 
 returns-3 : tie.Need-returns-3
 unfolding calledFor
 returns-3 c =
     let m = c .before in
     let k = m .before in
-    rw (sym (k .before .before .ten-each .ensures) ∙ not-false _ (k .before .if1 .left), eq-eqb _ _ (k .if2 .left), ne-eqb _ _ (m .if3 .taken)) (ap guids.Refused (c .misfit3 .ensures), refl)
+    rw (sym (k .before .before .each-row .ensures) ∙ not-false _ (k .before .if1 .left), eq-eqb _ _ (k .if2 .left), ne-eqb _ _ (m .if3 .taken)) (ap guids.Refused (c .own3 .ensures), refl)
 
 for-lists-requires : tie.Need-for-lists-requires
 for-lists-requires c κs =
     let e = c .before .before in
     let a = e .before .before .before .before .before .before .before .args in
-    ten-of (a .capacities .now) (a .counts .now) (sym (e .before .ten-each .ensures) ∙ not-false _ (e .if1 .left)) .0
+    rows-of (a .capacities .now) (a .counts .now) (sym (e .before .each-row .ensures) ∙ not-false _ (e .if1 .left)) .0
 
 for-lists-requires-2 : tie.Need-for-lists-requires-2
 for-lists-requires-2 c κs =
     let e = c .before .before .before in
     let a = e .before .before .before .before .before .before .before .args in
-    ten-of (a .capacities .now) (a .counts .now) (sym (e .before .ten-each .ensures) ∙ not-false _ (e .if1 .left)) .1
+    rows-of (a .capacities .now) (a .counts .now) (sym (e .before .each-row .ensures) ∙ not-false _ (e .if1 .left)) .1
 
 key-of-requires : tie.Need-key-of-requires
 key-of-requires c κs = search needs
@@ -68,18 +68,18 @@ returns-4 c =
     let k = y .before in
     let i = k .before .before in
     let j = i .before in
-    rw (sym (j .before .before .ten-each .ensures) ∙ not-false _ (j .before .if1 .left), eq-eqb _ _ (j .if2 .left), eq-eqb _ _ (i .if3 .left), sym (k .before .for-lists .ensures), sym (k .for-lists2 .ensures), sym (y .key-of .ensures)) (r .templates-for .ensures)
+    rw (sym (j .before .before .each-row .ensures) ∙ not-false _ (j .before .if1 .left), eq-eqb _ _ (j .if2 .left), eq-eqb _ _ (i .if3 .left), sym (k .before .for-lists .ensures), sym (k .for-lists2 .ensures), sym (y .key-of .ensures)) (r .templates-for .ensures .answered, r .templates-for .ensures .kept)
 
 pub templates-for-spec : {M : Type 1} → statement M
 templates-for-spec =
     tie.close
     (tie.spec
-    ten-each-requires
-    misfit-requires
+    each-row-requires
+    own-requires
     returns
-    misfit-requires-2
+    own-requires-2
     returns-2
-    misfit-requires-3
+    own-requires-3
     returns-3
     for-lists-requires
     for-lists-requires-2

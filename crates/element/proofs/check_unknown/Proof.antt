@@ -1,6 +1,11 @@
 use borrow.Author.Needs.{needs}
 use mathlib.Core.Path.{ap, sym, _∙_}
 use native.Mathlib.Omega.{arith}
+use Prim.Native.Nat.{_+_}
+use mathlib.Core.Path.{_≡_}
+use lib.ListN.{length}
+use Rattle.format.specs.Field.{unknown-element-end}
+use Rattle.format.specs.Refuse.{offset-out}
 use Rattle.format.specs.Needs.{elementRead}
 use Rattle.format.specs.declared.EntriesRead.the-variants as entries
 use Rattle.element.specs.Checked.{unknown-past, unknown-short, unknown-out, unknown-fine}
@@ -28,20 +33,31 @@ add-word c = search needs
 word-requires : tie.Need-word-requires
 word-requires c κs = search needs
 
-end-of-requires : tie.Need-end-of-requires
-end-of-requires c κs = search needs
+cast-end : tie.Need-cast-end
+cast-end c = search needs
+
+add-end : tie.Need-add-end
+add-end c = search needs
+
+in-word-requires : tie.Need-in-word-requires
+in-word-requires c κs = search needs
 
 offset-out-requires-2 : tie.Need-offset-out-requires-2
 offset-out-requires-2 c κs = search needs
 
 returns-3 : tie.Need-returns-3
 returns-3 c =
-    ap entries.Refused (c .offset-out2 .ensures) ∙ sym (ap elementRead (unknown-out _ _ (omega arith) _ (omega arith) (omega arith)))
+    let e = c .before .before .before in
+    let o = e .before .before .before .before in
+    let w : o .args .at + e .word .result ≡ o .args .at + _ = ap (λ x. o .args .at + x) (e .word .ensures) in
+    ap entries.Refused (c .offset-out2 .ensures ∙ ap (λ n. offset-out unknown-element-end n .told (length (o .args .b .now))) (c .before .in-word .ensures)) ∙ sym (ap elementRead (unknown-out (o .args .at) (o .args .b .now) (omega arith) _ w (omega arith)))
 
 returns-4 : tie.Need-returns-4
 returns-4 c =
     let e = c .before in
-    sym (unknown-fine _ _ (omega arith) (e .end-of .result) (omega arith) (omega arith))
+    let o = e .before .before .before .before in
+    let w : o .args .at + e .word .result ≡ o .args .at + _ = ap (λ x. o .args .at + x) (e .word .ensures) in
+    sym (unknown-fine (o .args .at) (o .args .b .now) (omega arith) _ w (omega arith))
 
 pub check-unknown-spec : {M : Type 1} → statement M
 check-unknown-spec =
@@ -54,7 +70,9 @@ check-unknown-spec =
     returns-2
     add-word
     word-requires
-    end-of-requires
+    cast-end
+    add-end
+    in-word-requires
     offset-out-requires-2
     returns-3
     returns-4)

@@ -56,8 +56,7 @@ returns c =
     let x = filled-4 _ _ _ _ _ (o .pre .1 .0) (o .pre .0 .0) (o .pre .0 .1) _ (o .pre .1 .1) in
     let t = c .before .before .before .before .before .before .before .before .before in
     let r = c .before .before .before .before .before .before .before in
-    let first = ap (λ i. getD (o .args .w .before) i 0) (r .row-of .ensures .0) in
-    (
+    let first = ap (λ i. getD (o .args .w .before) i 0) (r .row-of .ensures .0) in (
       rw (c .before .grow .ensures) (sym (x .1)),
       c .before .before .before .before .put .ensures ∙ ap (laid _ _) (put-words _ _ _ _ _ _ (fine-value _ (o .pre .1 .0) .1) (o .pre .0 .0) (o .pre .0 .1) _ _ (t .trailing-of .ensures) first),
     )

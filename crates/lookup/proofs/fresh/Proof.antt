@@ -1,15 +1,43 @@
--- By the event's template, and by its mark.
+-- By the tests, in their order.
+use mathlib.Core.Path.{ap, sym, _∙_}
+use borrow.Author.Tests.{not-true, not-false}
 use lib.ListN.{take, drop}
-use Rattle.lookup.specs.Found.{numberAt}
-use Rattle.lookup.specs.Given.{number-found, fresh-none, fresh-marked, fresh-number}
-use mathlib.Core.Path.{sym, _∙_}
-use native.Mathlib.Omega.{arith}
+use Rattle.format.specs.Area.{EVENTS, width}
+use Rattle.lists.specs.Found.{found}
+use Rattle.lookup.specs.Given.{unmarked, number-other, number-none, number-some, number-below}
 use borrow.Author.Needs.{needs}
+use native.Mathlib.Omega.{arith}
 use Rattle.lookup.proofs.fresh.Statement.{statement}
 use Rattle.lookup.proofs.fresh.Tie as tie
 
-template-of-requires : tie.Need-template-of-requires
-template-of-requires c κs = search needs
+same-requires : tie.Need-same-requires
+same-requires c κs = search needs
+
+returns : tie.Need-returns
+returns c =
+    let s = c .before in
+    let o = s .before .before .before in
+    let a = o .args in
+    sym (ap (λ ns. unmarked (a .marks .now) (found ns)) (number-other (a .words .now) (a .templates) (a .key .now) (a .at) (o .pre .0 .1) (sym (s .same .ensures) ∙ not-true _ (c .if1 .taken))))
+
+add-offset : tie.Need-add-offset
+add-offset c = search needs
+
+mul-offset : tie.Need-mul-offset
+mul-offset c = search needs
+
+shared-slice-read-offset : tie.Need-shared-slice-read-offset
+shared-slice-read-offset c = search needs
+
+returns-2 : tie.Need-returns-2
+returns-2 c =
+    let i = c .before .before in
+    let o = i .before .before .before .before in
+    let a = o .args in
+    sym (ap (λ ns. unmarked (a .marks .now) (found ns)) (number-none (a .words .now) (a .templates) (a .key .now) (a .at) (o .pre .0 .1) (sym (i .before .same .ensures) ∙ not-false _ (i .if1 .left)) (c .if2 .taken)))
+
+at-offset-requires : tie.Need-at-offset-requires
+at-offset-requires c κs = search needs
 
 enum-known-n : tie.Need-enum-known-n
 enum-known-n c = search needs
@@ -17,44 +45,62 @@ enum-known-n c = search needs
 enum-told : tie.Need-enum-told
 enum-told c = search needs
 
-returns : tie.Need-returns
-returns c =
-    let t = c .before .before in
-    let a = t .before .before .before .args in
-    sym (fresh-none (a .marks .now) (numberAt (a .words .now) (a .templates) (a .key .now) (a .at)) (sym (t .template-of .ensures) ∙ c .enum-told .given .1))
-
-cast-if1 : tie.Need-cast-if1
-cast-if1 c = search needs
-
-element-copy-out-if1 : tie.Need-element-copy-out-if1
-element-copy-out-if1 c =
-    let t = c .before .before .before in
-    let a = t .before .before .before .args in
-    omega (arith, number-found (a .words .now) (a .templates) (a .key .now) (take 16 (drop (a .at) (a .words .now))) _ (sym (t .template-of .ensures) ∙ c .before .n .given .1) .1)
-
-returns-2 : tie.Need-returns-2
-returns-2 c =
-    let n = c .before .before .before in
-    let t = n .before .before in
-    let a = t .before .before .before .args in
-    sym (fresh-marked (a .marks .now) (numberAt (a .words .now) (a .templates) (a .key .now) (a .at)) _ (sym (t .template-of .ensures) ∙ n .n .given .1) (c .if1 .taken))
-
 returns-3 : tie.Need-returns-3
 returns-3 c =
+    let t = c .before .before in
+    let i = t .before .before .before in
+    let o = i .before .before .before .before in
+    let a = o .args in
+    let e = number-some (a .words .now) (a .templates) (a .key .now) (a .at) (o .pre .0 .1) (sym (i .before .same .ensures) ∙ not-false _ (i .if1 .left)) (t .before .if2 .left) in
+    sym (ap (λ ns. unmarked (a .marks .now) (found ns)) e ∙ ap (unmarked (a .marks .now)) (sym (t .at-offset .ensures) ∙ c .enum-told .given .1))
+
+cast-if3 : tie.Need-cast-if3
+cast-if3 c = search needs
+
+element-copy-out-if3 : tie.Need-element-copy-out-if3
+element-copy-out-if3 c =
+    let t = c .before .before .before in
+    let i = t .before .before .before in
+    let o = i .before .before .before .before in
+    let a = o .args in
+    let e = number-some (a .words .now) (a .templates) (a .key .now) (a .at) (o .pre .0 .1) (sym (i .before .same .ensures) ∙ not-false _ (i .if1 .left)) (t .before .if2 .left) in
+    omega (arith, number-below (a .words .now) (a .templates) (a .key .now) (take (width EVENTS) (drop (a .at) (a .words .now))) _ (ap found e ∙ sym (t .at-offset .ensures) ∙ c .before .n .given .1))
+
+returns-4 : tie.Need-returns-4
+returns-4 c =
     let n = c .before .before .before in
     let t = n .before .before in
-    let a = t .before .before .before .args in
-    sym (fresh-number (a .marks .now) (numberAt (a .words .now) (a .templates) (a .key .now) (a .at)) _ (sym (t .template-of .ensures) ∙ n .n .given .1) (c .if1 .left))
+    let i = t .before .before .before in
+    let o = i .before .before .before .before in
+    let a = o .args in
+    let e = number-some (a .words .now) (a .templates) (a .key .now) (a .at) (o .pre .0 .1) (sym (i .before .same .ensures) ∙ not-false _ (i .if1 .left)) (t .before .if2 .left) in
+    sym (ap (λ ns. unmarked (a .marks .now) (found ns)) e ∙ ap (unmarked (a .marks .now)) (sym (t .at-offset .ensures) ∙ n .n .given .1) ∙ rw (c .if3 .taken))
+
+returns-5 : tie.Need-returns-5
+returns-5 c =
+    let n = c .before .before .before in
+    let t = n .before .before in
+    let i = t .before .before .before in
+    let o = i .before .before .before .before in
+    let a = o .args in
+    let e = number-some (a .words .now) (a .templates) (a .key .now) (a .at) (o .pre .0 .1) (sym (i .before .same .ensures) ∙ not-false _ (i .if1 .left)) (t .before .if2 .left) in
+    sym (ap (λ ns. unmarked (a .marks .now) (found ns)) e ∙ ap (unmarked (a .marks .now)) (sym (t .at-offset .ensures) ∙ n .n .given .1) ∙ rw (c .if3 .left))
 
 pub fresh-spec : {M : Type 1} → statement M
 fresh-spec =
     tie.close
     (tie.spec
-    template-of-requires
+    same-requires
+    returns
+    add-offset
+    mul-offset
+    shared-slice-read-offset
+    returns-2
+    at-offset-requires
     enum-known-n
     enum-told
-    returns
-    cast-if1
-    element-copy-out-if1
-    returns-2
-    returns-3)
+    returns-3
+    cast-if3
+    element-copy-out-if3
+    returns-4
+    returns-5)

@@ -1,58 +1,91 @@
--- The GUID is four words.
-use Prim.Native.Nat.{ℕ, _+_, _-_, _*_}
-use lib.ListN.{take, drop}
-use Rattle.lookup.specs.Found.{markedFrom}
-use mathlib.Core.Path.{_≡_, ap, _∙_}
-use native.Mathlib.Omega.{arith}
+-- The invariant: what is left decides.
+use Prim.Native.Nat.{_+_, _*_, _≤_}
+use mathlib.Core.Path.{_≡_, refl, ap, sym, _∙_}
+use mathlib.Core.Bool.{true, false}
+use lib.ListN.{length, getD, set}
+use Rattle.blob.specs.Reading.{choose}
+use Rattle.format.specs.Area.{TEMPLATES, width}
+use Rattle.lookup.specs.Given.{markedFrom, marked-more, marked-none}
 use borrow.Author.Needs.{needs}
+use native.Mathlib.Omega.{arith}
 use Rattle.lookup.proofs.mark.Statement.{statement}
 use Rattle.lookup.proofs.mark.Tie as tie
 
-mul-from : tie.Need-mul-from
-mul-from c = search needs
+abbrev Inv-loop : tie.InvT-loop
+Inv-loop words guid marks₀ w at₀ left₀ i₀ marks at left i =
+    (at + width TEMPLATES * left ≤ length words)
+    × (i + left ≤ 65536)
+    × (markedFrom words guid 0 left₀ at₀ marks₀ ≡ markedFrom words guid i left at marks)
 
-add-from : tie.Need-add-from
-add-from c = search needs
+abbrev μ-loop : tie.MeasureT-loop
+μ-loop words guid marks₀ w at₀ left₀ i₀ marks at left i = left
 
-add-from-2 : tie.Need-add-from-2
-add-from-2 c = search needs
+width-of-requires : tie.Need-width-of-requires Inv-loop μ-loop
+width-of-requires c κs = search needs
 
-add-to : tie.Need-add-to
-add-to c = search needs
+cast-width : tie.Need-cast-width Inv-loop μ-loop
+cast-width c = search needs
 
-mul-mark-all : tie.Need-mul-mark-all
-mul-mark-all c = search needs
+loop-holds : tie.Need-loop-holds Inv-loop μ-loop
+loop-holds c = (omega arith, omega arith, refl)
 
-sub-mark-all : tie.Need-sub-mark-all
-sub-mark-all c = search needs
+add-same : tie.Need-add-same Inv-loop μ-loop
+add-same c = search needs
 
-part-mark-all-start : tie.Need-part-mark-all-start
-part-mark-all-start c = search needs
+same-requires : tie.Need-same-requires Inv-loop μ-loop
+same-requires c κs = search needs
 
-part-mark-all-end : tie.Need-part-mark-all-end
-part-mark-all-end c = search needs
+element-copy-out-either : tie.Need-element-copy-out-either Inv-loop μ-loop
+element-copy-out-either c = search needs
 
-mark-all-requires : tie.Need-mark-all-requires
-mark-all-requires c κs = search needs
+either-requires : tie.Need-either-requires Inv-loop μ-loop
+either-requires c κs = search needs
 
-returns : tie.Need-returns
+element-write-marks : tie.Need-element-write-marks Inv-loop μ-loop
+element-write-marks c = search needs
+
+add-at : tie.Need-add-at Inv-loop μ-loop
+add-at c = search needs
+
+sub-left : tie.Need-sub-left Inv-loop μ-loop
+sub-left c = search needs
+
+add-i : tie.Need-add-i Inv-loop μ-loop
+add-i c = search needs
+
+loop-less : tie.Need-loop-less Inv-loop μ-loop
+loop-less c = search needs
+
+loop-again : tie.Need-loop-again Inv-loop μ-loop
+loop-again c =
+    let s = c .before .before in
+    let l = s .before .before in
+    let a = l .before .before .before .before .args in
+    let m = ap (set (l .loop .marks) (l .loop .i)) (c .either .ensures ∙ ap (λ t. choose t true (getD (l .loop .marks) (l .loop .i) false)) (s .same .ensures)) in
+    rw (l .before .width-of .ensures .0) (omega arith, omega arith, l .loop .inv .2 ∙ marked-more (a .words .now) (a .guid .now) _ _ _ _ (s .before .loop-test .taken) _ m)
+
+returns : tie.Need-returns Inv-loop μ-loop
 returns c =
     let a = c .before .before .before .before .before .args in
-    let f = a .templates .at + 12 * a .n + 6 in
-    let e : (f + 4) - f ≡ 4 = omega arith in
-    c .mark-all .ensures ∙ ap (λ (m : ℕ). markedFrom (a .words .now) (take m (drop f (a .words .now))) 0 (a .templates .count) (a .templates .at) (a .marks .now)) e
+    sym (c .before .loop .inv .2 ∙ marked-none (a .words .now) (a .guid .now) _ _ _ _ (c .loop-test .left))
 
 pub mark-spec : {M : Type 1} → statement M
 mark-spec =
     tie.close
     (tie.spec
-    mul-from
-    add-from
-    add-from-2
-    add-to
-    mul-mark-all
-    sub-mark-all
-    part-mark-all-start
-    part-mark-all-end
-    mark-all-requires
+    Inv-loop
+    μ-loop
+    width-of-requires
+    cast-width
+    loop-holds
+    add-same
+    same-requires
+    element-copy-out-either
+    either-requires
+    element-write-marks
+    add-at
+    sub-left
+    add-i
+    loop-less
+    loop-again
     returns)

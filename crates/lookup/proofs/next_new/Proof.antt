@@ -1,24 +1,33 @@
 -- The invariant: what is left decides.
 use Prim.{tt}
-use Prim.Native.Nat.{_+_, _*_, _≤_}
-use Rattle.lookup.specs.Given.{numbers, firsts, next-skip, next-give, next-below, next-none}
-use mathlib.Core.Path.{_≡_, refl, sym, _∙_}
-use native.Mathlib.Omega.{arith}
+use Prim.Native.Nat.{_+_, _≤_}
+use mathlib.Core.Path.{_≡_, refl, ap, sym, _∙_}
+use lib.ListN.{length}
+use Rattle.lookup.specs.Given.{marked, numbers, firsts, guid-length, next-skip, next-give, next-below, next-none}
 use borrow.Author.Needs.{needs}
+use native.Mathlib.Omega.{arith}
 use Rattle.lookup.proofs.next_new.Statement.{statement}
 use Rattle.lookup.proofs.next_new.Tie as tie
 
 abbrev Inv-loop : tie.InvT-loop
-Inv-loop words templates key marks₀ at₀ left₀ marks at left =
-    ((at + 16 * left ≡ at₀ + 16 * left₀) × (left ≤ left₀))
-    × (firsts words templates marks₀ (numbers words templates key (record { at = at₀; count = left₀ }))
-    ≡ firsts words templates marks (numbers words templates key (record { at = at; count = left })))
+Inv-loop words events templates list key marks₀ first₀ left₀ marks first left =
+    ((first + left ≡ events .first + events .count) × (left ≤ events .count))
+    × (firsts words list marks₀ (numbers words templates key events) ≡ firsts words list marks (numbers words templates key (record { start = events .start; first = first; count = left })))
 
 abbrev μ-loop : tie.MeasureT-loop
-μ-loop words templates key marks₀ at₀ left₀ marks at left = left
+μ-loop words events templates list key marks₀ first₀ left₀ marks first left = left
 
 loop-holds : tie.Need-loop-holds Inv-loop μ-loop
-loop-holds c = ((refl, search needs), refl)
+loop-holds c = ((refl, omega arith), refl)
+
+entry-at-requires : tie.Need-entry-at-requires Inv-loop μ-loop
+entry-at-requires c κs = search needs
+
+add-first : tie.Need-add-first Inv-loop μ-loop
+add-first c = search needs
+
+sub-left : tie.Need-sub-left Inv-loop μ-loop
+sub-left c = search needs
 
 fresh-requires : tie.Need-fresh-requires Inv-loop μ-loop
 fresh-requires c κs = search needs
@@ -26,40 +35,43 @@ fresh-requires c κs = search needs
 enum-known-n : tie.Need-enum-known-n Inv-loop μ-loop
 enum-known-n c = search needs
 
+guid-of-requires : tie.Need-guid-of-requires Inv-loop μ-loop
+guid-of-requires c κs =
+    let n = c .before in
+    let f = n .before .before in
+    let i = f .before .before in
+    let l = i .before .before in
+    let o = l .before .before .before in
+    let a = o .args in
+    (o .pre .1 .0, omega (arith, o .pre .1, next-below (a .words .now) (a .templates) (a .key .now) (l .loop .marks) (i .entry-at .result) _ (sym (f .fresh .ensures) ∙ n .n .given .1)))
+
 mark-requires : tie.Need-mark-requires Inv-loop μ-loop
 mark-requires c κs =
-    let n = c .before .before in
+    let n = c .before .before .before in
     let f = n .before .before in
-    let l = f .before .before .before in
+    let i = f .before .before in
+    let l = i .before .before in
     let o = l .before .before .before in
-    (o .pre .1, next-below (o .args .words .now) (o .args .templates) (o .args .key .now) (l .loop .marks) (l .loop .left) (l .loop .at) (f .before .before .loop-test .taken) _ (sym (f .fresh .ensures) ∙ n .n .given .1))
-
-add-t14 : tie.Need-add-t14 Inv-loop μ-loop
-add-t14 c = search needs
-
-sub-t15 : tie.Need-sub-t15 Inv-loop μ-loop
-sub-t15 c = search needs
+    let a = o .args in
+    (o .pre .1 .0, ap length (c .before .guid-of .ensures) ∙ guid-length (a .words .now) (a .list) _ (o .pre .1 .0) (omega (arith, o .pre .1, next-below (a .words .now) (a .templates) (a .key .now) (l .loop .marks) (i .entry-at .result) _ (sym (f .fresh .ensures) ∙ n .n .given .1))))
 
 returns : tie.Need-returns Inv-loop μ-loop
 returns c =
-    let n = c .before .before .before in
+    let g = c .before .before in
+    let n = g .before .before in
     let f = n .before .before in
-    let l = f .before .before .before in
+    let i = f .before .before in
+    let l = i .before .before in
     let o = l .before .before .before in
-    let t = f .before .before .loop-test .taken in
-    let e = sym (f .fresh .ensures) ∙ n .n .given .1 in (
-      l .loop .inv .1 ∙ next-give (o .args .words .now) (o .args .templates) (o .args .key .now) (l .loop .marks) (l .loop .left) (l .loop .at) t _ _ e (c .mark .ensures),
-      (next-below (o .args .words .now) (o .args .templates) (o .args .key .now) (l .loop .marks) (l .loop .left) (l .loop .at) t _ e, omega (arith, t, l .loop .inv .0), omega (arith, t, l .loop .inv .0)),
+    let a = o .args in
+    let t = i .before .loop-test .taken in
+    let m = c .mark .ensures ∙ ap (λ u. marked (a .words .now) (a .list) u (l .loop .marks)) (g .guid-of .ensures) in (
+      l .loop .inv .1 ∙ next-give (a .words .now) (a .list) (a .templates) (a .key .now) (l .loop .marks) (a .events .start) _ _ (i .entry-at .result) t (i .entry-at .ensures) _ _ (sym (f .fresh .ensures) ∙ n .n .given .1) m,
+      (omega (arith, o .pre .1, next-below (a .words .now) (a .templates) (a .key .now) (l .loop .marks) (i .entry-at .result) _ (sym (f .fresh .ensures) ∙ n .n .given .1)), omega (arith, t, l .loop .inv .0), refl, omega (arith, t, l .loop .inv .0)),
     )
 
 enum-told : tie.Need-enum-told Inv-loop μ-loop
 enum-told c = search needs
-
-add-at : tie.Need-add-at Inv-loop μ-loop
-add-at c = search needs
-
-sub-left : tie.Need-sub-left Inv-loop μ-loop
-sub-left c = search needs
 
 loop-less : tie.Need-loop-less Inv-loop μ-loop
 loop-less c = search needs
@@ -67,12 +79,16 @@ loop-less c = search needs
 loop-again : tie.Need-loop-again Inv-loop μ-loop
 loop-again c =
     let f = c .before .before in
-    let l = f .before .before .before in
-    let o = l .before .before .before in
-    ((omega arith, omega arith), l .loop .inv .1 ∙ next-skip (o .args .words .now) (o .args .templates) (o .args .key .now) (l .loop .marks) (l .loop .left) (l .loop .at) (f .before .before .loop-test .taken) (sym (f .fresh .ensures) ∙ c .enum-told .given .1))
+    let i = f .before .before in
+    let l = i .before .before in
+    let a = l .before .before .before .args in
+    let t = i .before .loop-test .taken in
+    ((omega (arith, t, l .loop .inv .0), omega (arith, l .loop .inv .0)), l .loop .inv .1 ∙ next-skip (a .words .now) (a .list) (a .templates) (a .key .now) (l .loop .marks) (a .events .start) _ _ (i .entry-at .result) t (i .entry-at .ensures) (sym (f .fresh .ensures) ∙ c .enum-told .given .1))
 
 returns-2 : tie.Need-returns-2 Inv-loop μ-loop
-returns-2 c = (c .before .loop .inv .1 ∙ next-none (c .before .before .before .before .args .words .now) _ _ _ _ _ (c .loop-test .left), tt)
+returns-2 c =
+    let a = c .before .before .before .before .args in
+    (c .before .loop .inv .1 ∙ next-none (a .words .now) (a .list) (a .templates) (a .key .now) _ _ _ _ (c .loop-test .left), tt)
 
 pub next-new-spec : {M : Type 1} → statement M
 next-new-spec =
@@ -81,15 +97,15 @@ next-new-spec =
     Inv-loop
     μ-loop
     loop-holds
+    entry-at-requires
+    add-first
+    sub-left
     fresh-requires
     enum-known-n
+    guid-of-requires
     mark-requires
-    add-t14
-    sub-t15
     returns
     enum-told
-    add-at
-    sub-left
     loop-less
     loop-again
     returns-2)

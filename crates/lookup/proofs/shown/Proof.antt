@@ -1,5 +1,5 @@
 -- By the case.
-use Rattle.lookup.specs.Found.{shown}
+use Rattle.lookup.specs.Given.{shown}
 use mathlib.Core.Path.{ap, sym}
 use borrow.Author.Needs.{needs}
 use Rattle.lookup.proofs.shown.Statement.{statement}

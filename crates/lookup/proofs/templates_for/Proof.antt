@@ -1,114 +1,113 @@
 -- By the tests, in their order.
-use Prim.Native.Nat.{_+_, _*_, _≤_}
-use borrow.Author.Tests.{not-true, not-false}
-use lib.ListN.{length}
-use Rattle.format.specs.Lookup.{tablesFit, guidsFound, guidsHeld}
-use Rattle.lookup.specs.Found.{entries}
-use Rattle.lookup.specs.ByKey.{tables-in, key-8, key-wide, key-over, key-unfit, key-room, key-refused}
-use mathlib.Core.Path.{ap, sym, _∙_, subst}
+use mathlib.Core.Path.{refl, ap, sym, _∙_, subst}
+use Rattle.format.specs.Area.{PROVIDERS, place, width}
+use Rattle.format.specs.Lists.{guidWords}
+use Rattle.format.specs.Lookup.{position, guidsFound, guidsHeld}
+use Rattle.lists.specs.Fit.{fits-together, whole-few}
+use Rattle.lists.specs.Found.{entries, few, has, found}
+use Rattle.lookup.specs.Given.{roomFor}
+use Rattle.lookup.specs.ByKey.{key-wide, key-refused, key-room, key-found, key-none, given-none, refusal-keeps}
 use borrow.Author.Needs.{needs}
+use native.Mathlib.Omega.{arith}
 use Rattle.lookup.proofs.templates_for.Statement.{statement}
 use Rattle.lookup.proofs.templates_for.Tie as tie
 
-lent-enough-requires : tie.Need-lent-enough-requires
-lent-enough-requires c κs = search needs
+cast-if1 : tie.Need-cast-if1
+cast-if1 c = search needs
 
 own-requires : tie.Need-own-requires
 own-requires c κs = search needs
 
 returns : tie.Need-returns
 returns c =
-    let l = c .before .before in
-    let a = l .before .before .before .args in
-    key-refused (a .guids .now) _ _ _ (c .own .ensures) (key-8 (a .words .now) (a .capacities) (a .counts) (a .key) (a .guids .now) (sym (l .lent-enough .ensures) ∙ not-true _ (c .before .if1 .taken)))
+    let a = c .before .before .before .before .args in
+    (let x = refusal-keeps (a .guids .now) _ _ _ (c .own .ensures) (key-wide (a .words .now) (a .capacities) (a .counts) (a .key) (a .guids .now) (c .before .if1 .taken)) in record { answered = x .0; kept = x .1 })
 
-own-requires-2 : tie.Need-own-requires-2
-own-requires-2 c κs = search needs
+fit-together-requires : tie.Need-fit-together-requires
+fit-together-requires c κs = search needs
+
+enum-known-r : tie.Need-enum-known-r
+enum-known-r c = search needs
 
 returns-2 : tie.Need-returns-2
 returns-2 c =
-    let l = c .before .before .before in
-    let a = l .before .before .before .args in
-    key-refused (a .guids .now) _ _ _ (c .own2 .ensures) (key-wide (a .words .now) (a .capacities) (a .counts) (a .key) (a .guids .now) (sym (l .lent-enough .ensures) ∙ not-false _ (c .before .before .if1 .left)) (c .before .if2 .taken))
+    let f = c .before .before .before in
+    let a = f .before .before .before .before .args in
+    (let x = refusal-keeps (a .guids .now) _ _ _ refl (key-refused (a .words .now) (a .capacities) (a .counts) (a .key) (a .guids .now) (f .before .if1 .left) _ (sym (f .fit-together .ensures) ∙ c .before .r .given .1)) in record { answered = x .0; kept = x .1 })
 
-counts-fit-requires : tie.Need-counts-fit-requires
-counts-fit-requires c κs = search needs
+enum-told : tie.Need-enum-told
+enum-told c = search needs
 
-own-requires-3 : tie.Need-own-requires-3
-own-requires-3 c κs = search needs
+run-of-requires : tie.Need-run-of-requires
+run-of-requires c κs = search needs
+
+slice-aggregate-find : tie.Need-slice-aggregate-find
+slice-aggregate-find c = search needs
+
+find-requires : tie.Need-find-requires
+find-requires c κs =
+    let e = c .before .before .before in
+    let v = e .before .before in
+    let a = v .before .before .before .before .args in
+    let t = fits-together (a .words .now) (a .capacities) (a .counts) (sym (v .fit-together .ensures) ∙ e .enum-told .given .1) in
+    ((omega arith, omega arith), subst (λ r. few (width PROVIDERS) r (a .words .now)) (sym (c .before .run-of .ensures)) (whole-few (a .words .now) (a .capacities) (a .counts) (t .0) (place PROVIDERS)))
+
+enum-known-provider : tie.Need-enum-known-provider
+enum-known-provider c = search needs
+
+enum-told-2 : tie.Need-enum-told-2
+enum-told-2 c = search needs
 
 returns-3 : tie.Need-returns-3
 returns-3 c =
-    let n = c .before .before in
-    let l = n .before .before .before in
-    let a = l .before .before .before .args in
-    key-refused (a .guids .now) _ _ _ (c .own3 .ensures)
-    (key-over (a .words .now) (a .capacities) (a .counts) (a .key) (a .guids .now) (sym (l .lent-enough .ensures) ∙ not-false _ (n .before .before .if1 .left)) (n .before .if2 .left) (sym (n .counts-fit .ensures) ∙ not-true _ (c .before .if3 .taken)))
-
-tables-of-requires : tie.Need-tables-of-requires
-tables-of-requires c κs = search needs
-
-tables-fit-requires : tie.Need-tables-fit-requires
-tables-fit-requires c κs =
-    let n = c .before .before in
-    let l = n .before .before .before in
-    let a = l .before .before .before .args in
-    let t = tables-in (a .words .now) (a .capacities) (a .counts) (sym (l .lent-enough .ensures) ∙ not-false _ (n .before .before .if1 .left)) (sym (n .counts-fit .ensures) ∙ not-false _ (c .before .if3 .left)) in
-    subst (λ r. r .at + 9 * r .count ≤ length (a .words .now)) (sym (c .tables-of .ensures)) (t .0)
-
-own-requires-4 : tie.Need-own-requires-4
-own-requires-4 c κs = search needs
-
-returns-4 : tie.Need-returns-4
-returns-4 c =
     let f = c .before .before in
-    let n = f .before .before .before in
-    let l = n .before .before .before in
-    let a = l .before .before .before .args in
-    key-refused (a .guids .now) _ _ _ (c .own4 .ensures)
-    (key-unfit (a .words .now) (a .capacities) (a .counts) (a .key) (a .guids .now) (sym (l .lent-enough .ensures) ∙ not-false _ (n .before .before .if1 .left)) (n .before .if2 .left) (sym (n .counts-fit .ensures) ∙ not-false _ (f .before .before .if3 .left))
-    (sym (f .tables-fit .ensures ∙ ap (λ r. tablesFit (a .counts) (entries 9 r (a .words .now))) (f .before .tables-of .ensures)) ∙ not-true _ (c .before .if4 .taken)))
+    let e = f .before .before .before .before in
+    let v = e .before .before in
+    let a = v .before .before .before .before .args in
+    let t = fits-together (a .words .now) (a .capacities) (a .counts) (sym (v .fit-together .ensures) ∙ e .enum-told .given .1) in
+    (let x = given-none (a .guids .now) _ (key-room (a .words .now) (a .capacities) (a .counts) (a .key) (a .guids .now) (v .before .if1 .left) (t .0) (t .1) ∙ ap (roomFor (a .guids .now)) (key-none (a .words .now) (a .capacities) (a .counts) (t .0) (a .key) (ap (λ r. found (position (has 0 (guidWords (a .key .guid))) (r .first) (entries (width PROVIDERS) r (a .words .now)))) (sym (f .before .before .run-of .ensures)) ∙ sym (f .find .ensures) ∙ c .enum-told2 .given .1))) in record { answered = x .0; kept = x .1 })
 
-look-up-requires : tie.Need-look-up-requires
-look-up-requires c κs =
-    let f = c .before .before in
-    let n = f .before .before .before in
-    let l = n .before .before .before in
-    let a = l .before .before .before .args in (
-      (sym (l .lent-enough .ensures) ∙ not-false _ (n .before .before .if1 .left), sym (n .counts-fit .ensures) ∙ not-false _ (f .before .before .if3 .left)),
-      (sym (f .tables-fit .ensures ∙ ap (λ r. tablesFit (a .counts) (entries 9 r (a .words .now))) (f .before .tables-of .ensures)) ∙ not-false _ (c .before .if4 .left), n .before .if2 .left),
-    )
+give-requires : tie.Need-give-requires
+give-requires c κs =
+    let f = c .before .before .before .before in
+    let e = f .before .before .before .before in
+    let v = e .before .before in
+    let a = v .before .before .before .before .args in
+    let t = fits-together (a .words .now) (a .capacities) (a .counts) (sym (v .fit-together .ensures) ∙ e .enum-told .given .1) in
+    (t, v .before .if1 .left)
 
 same-length : tie.Need-same-length
 same-length c = search needs
 
-returns-5 : tie.Need-returns-5
-returns-5 c =
+returns-4 : tie.Need-returns-4
+returns-4 c =
     let u = c .before .before in
-    let f = u .before .before .before in
-    let n = f .before .before .before in
-    let l = n .before .before .before in
-    let a = l .before .before .before .args in
-    let x = sym (key-room (a .words .now) (a .capacities) (a .counts) (a .key) (a .guids .now) (sym (l .lent-enough .ensures) ∙ not-false _ (n .before .before .if1 .left)) (n .before .if2 .left) (sym (n .counts-fit .ensures) ∙ not-false _ (f .before .before .if3 .left))
-    (sym (f .tables-fit .ensures ∙ ap (λ r. tablesFit (a .counts) (entries 9 r (a .words .now))) (f .before .tables-of .ensures)) ∙ not-false _ (u .before .before .if4 .left))) in
-    (u .look-up .ensures .0 ∙ ap guidsFound x, u .look-up .ensures .1 ∙ ap (guidsHeld (a .guids .now)) x)
+    let n = u .before .before .before in
+    let f = n .before .before in
+    let e = f .before .before .before .before in
+    let v = e .before .before in
+    let a = v .before .before .before .before .args in
+    let t = fits-together (a .words .now) (a .capacities) (a .counts) (sym (v .fit-together .ensures) ∙ e .enum-told .given .1) in
+    let x = sym (key-room (a .words .now) (a .capacities) (a .counts) (a .key) (a .guids .now) (v .before .if1 .left) (t .0) (t .1) ∙ ap (roomFor (a .guids .now)) (key-found (a .words .now) (a .capacities) (a .counts) (t .0) (a .key) _ (ap (λ r. found (position (has 0 (guidWords (a .key .guid))) (r .first) (entries (width PROVIDERS) r (a .words .now)))) (sym (f .before .before .run-of .ensures)) ∙ sym (f .find .ensures) ∙ n .provider .given .1) (t .1))) in
+    record { answered = u .give .ensures .0 ∙ ap guidsFound x; kept = u .give .ensures .1 ∙ ap (guidsHeld (a .guids .now)) x }
 
 pub templates-for-spec : {M : Type 1} → statement M
 templates-for-spec =
     tie.close
     (tie.spec
-    lent-enough-requires
+    cast-if1
     own-requires
     returns
-    own-requires-2
+    fit-together-requires
+    enum-known-r
     returns-2
-    counts-fit-requires
-    own-requires-3
+    enum-told
+    run-of-requires
+    slice-aggregate-find
+    find-requires
+    enum-known-provider
+    enum-told-2
     returns-3
-    tables-of-requires
-    tables-fit-requires
-    own-requires-4
-    returns-4
-    look-up-requires
+    give-requires
     same-length
-    returns-5)
+    returns-4)

@@ -2,11 +2,12 @@
 use mathlib.Core.Path.{ap, sym, _∙_}
 use native.Mathlib.Omega.{arith}
 use lib.ListN.{length-take}
-use Rattle.blob.specs.Reading.{run}
+use Rattle.blob.specs.Reading.{run, refused}
 use Rattle.format.specs.Crim.{header}
-use Rattle.format.specs.Answer.{needing}
+use Rattle.format.specs.Answer.{answer, needing}
 use Rattle.format.specs.Determined.{needs-refused}
 use Rattle.manifest.specs.Read.{block-long, block-headless, block-headed, is-header, no-header-read, sized}
+use borrow.Author.Needs.{needs}
 use borrow.Author.Needs.{needs}
 use Rattle.manifest.proofs.needs.Statement.{statement}
 use Rattle.manifest.proofs.needs.Tie as tie
@@ -14,10 +15,13 @@ use Rattle.manifest.proofs.needs.Tie as tie
 own-requires : tie.Need-own-requires
 own-requires c κs = search needs
 
+refuse-requires : tie.Need-refuse-requires
+refuse-requires c κs = search needs
+
 returns : tie.Need-returns
 returns c =
-    let x = block-long (c .before .before .before .args .bytes .now) (c .before .if1 .taken) in
-    c .own .ensures ∙ sym (needs-refused _) ∙ ap needing (sym x)
+    let x = block-long (c .before .before .before .before .args .bytes .now) (c .before .before .if1 .taken) in
+    record { answered = c .refuse .ensures ∙ ap (λ r. answer (refused r)) (c .before .own .ensures) ∙ sym (needs-refused _) ∙ ap needing (sym x) }
 
 header-requires : tie.Need-header-requires
 header-requires c κs = search needs
@@ -25,8 +29,8 @@ header-requires c κs = search needs
 enum-known-r : tie.Need-enum-known-r
 enum-known-r c = search needs
 
-refuse-requires : tie.Need-refuse-requires
-refuse-requires c κs = search needs
+refuse-requires-2 : tie.Need-refuse-requires-2
+refuse-requires-2 c κs = search needs
 
 enum-known-h : tie.Need-enum-known-h
 enum-known-h c = search needs
@@ -56,7 +60,7 @@ returns-2 c =
     let k = d .before .before in
     let o = k .before .before .before in
     let x = block-headless (o .args .bytes .now) (omega (arith, k .before .if1 .left)) _ (no-header-read (run header (o .args .bytes .now)) _ (sym (d .r .given .1) ∙ k .header .ensures)) in
-    c .refuse .ensures ∙ sym (needs-refused _) ∙ ap needing (sym x)
+    record { answered = c .refuse2 .ensures ∙ sym (needs-refused _) ∙ ap needing (sym x) }
 
 returns-3 : tie.Need-returns-3
 returns-3 c =
@@ -64,17 +68,18 @@ returns-3 c =
     let k = d .before .before in
     let o = k .before .before .before in
     let x = block-headed (o .args .bytes .now) (omega (arith, k .before .if1 .left)) _ (is-header (run header (o .args .bytes .now)) _ (sym (d .h .given .1) ∙ k .header .ensures)) in
-    c .needs-block .ensures ∙ ap needing (sym x)
+    record { answered = c .needs-block .ensures ∙ ap needing (sym x) }
 
 pub needs-spec : {M : Type 1} → statement M
 needs-spec =
     tie.close
     (tie.spec
     own-requires
+    refuse-requires
     returns
     header-requires
     enum-known-r
-    refuse-requires
+    refuse-requires-2
     enum-known-h
     cast-size
     slice-aggregate-needs-block

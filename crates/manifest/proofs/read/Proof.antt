@@ -2,11 +2,12 @@
 use mathlib.Core.Path.{ap, sym, _∙_}
 use native.Mathlib.Omega.{arith}
 use lib.ListN.{length-take}
-use Rattle.blob.specs.Reading.{run}
+use Rattle.blob.specs.Reading.{run, refused}
 use Rattle.format.specs.Crim.{header}
 use Rattle.format.specs.Answer.{answer, held}
 use borrow.Author.Tests.{not-true, not-false}
 use Rattle.manifest.specs.Read.{too-long, unlent, no-header, headed, is-header, no-header-read, sized}
+use borrow.Author.Needs.{needs}
 use borrow.Author.Needs.{needs}
 use Rattle.manifest.proofs.read.Statement.{statement}
 use Rattle.manifest.proofs.read.Tie as tie
@@ -14,12 +15,15 @@ use Rattle.manifest.proofs.read.Tie as tie
 own-requires : tie.Need-own-requires
 own-requires c κs = search needs
 
+refuse-requires : tie.Need-refuse-requires
+refuse-requires c κs = search needs
+
 returns : tie.Need-returns
 unfolding held
 returns c =
-    let o = c .before .before .before .before in
-    let x = too-long (o .args .bytes .now) (o .args .words .now) (o .args .capacities) (c .before .if1 .taken) in
-    (c .own .ensures ∙ ap answer (sym x), sym (ap (held _ _) x))
+    let o = c .before .before .before .before .before in
+    let x = too-long (o .args .bytes .now) (o .args .words .now) (o .args .capacities) (c .before .before .if1 .taken) in
+    record { answered = c .refuse .ensures ∙ ap (λ r. answer (refused r)) (c .before .own .ensures) ∙ ap answer (sym x); kept = sym (ap (held _ _) x) }
 
 lent-enough-requires : tie.Need-lent-enough-requires
 lent-enough-requires c κs = search needs
@@ -27,14 +31,16 @@ lent-enough-requires c κs = search needs
 own-requires-2 : tie.Need-own-requires-2
 own-requires-2 c κs = search needs
 
+refuse-requires-2 : tie.Need-refuse-requires-2
+refuse-requires-2 c κs = search needs
+
 returns-2 : tie.Need-returns-2
 unfolding held
 returns-2 c =
-    let l = c .before .before in
-    let e = l .before in
-    let o = e .before .before .before in
-    let x = unlent (o .args .bytes .now) (o .args .words .now) (o .args .capacities) (omega (arith, e .if1 .left)) (sym (l .lent-enough .ensures) ∙ not-true _ (c .before .if2 .taken)) in
-    (c .own2 .ensures ∙ ap answer (sym x), sym (ap (held _ _) x))
+    let l = c .before .before .before in
+    let o = c .before .before .before .before .before .before .before in
+    let x = unlent (o .args .bytes .now) (o .args .words .now) (o .args .capacities) (omega (arith, l .before .if1 .left)) (sym (l .lent-enough .ensures) ∙ not-true _ (c .before .before .if2 .taken)) in
+    record { answered = c .refuse2 .ensures ∙ ap (λ r. answer (refused r)) (c .before .own2 .ensures) ∙ ap answer (sym x); kept = sym (ap (held _ _) x) }
 
 header-requires : tie.Need-header-requires
 header-requires c κs = search needs
@@ -42,8 +48,8 @@ header-requires c κs = search needs
 enum-known-r : tie.Need-enum-known-r
 enum-known-r c = search needs
 
-refuse-requires : tie.Need-refuse-requires
-refuse-requires c κs = search needs
+refuse-requires-3 : tie.Need-refuse-requires-3
+refuse-requires-3 c κs = search needs
 
 enum-known-h : tie.Need-enum-known-h
 enum-known-h c = search needs
@@ -81,7 +87,7 @@ returns-3 c =
     let l = n .before in
     let o = l .before .before .before .before in
     let x = no-header (o .args .bytes .now) (o .args .words .now) (o .args .capacities) (omega (arith, l .before .if1 .left)) (sym (l .lent-enough .ensures) ∙ not-false _ (n .if2 .left)) _ (no-header-read (run header (o .args .bytes .now)) _ (sym (d .r .given .1) ∙ k .header .ensures)) in
-    (c .refuse .ensures ∙ ap answer (sym x), sym (ap (held _ _) x))
+    record { answered = c .refuse3 .ensures ∙ ap answer (sym x); kept = sym (ap (held _ _) x) }
 
 same-length : tie.Need-same-length
 same-length c = search needs
@@ -95,20 +101,22 @@ returns-4 c =
     let l = n .before in
     let o = l .before .before .before .before in
     let x = headed (o .args .bytes .now) (o .args .words .now) (o .args .capacities) (omega (arith, l .before .if1 .left)) (sym (l .lent-enough .ensures) ∙ not-false _ (n .if2 .left)) _ (is-header (run header (o .args .bytes .now)) _ (sym (d .h .given .1) ∙ k .header .ensures)) in
-    (b .read-block .ensures .0 ∙ ap answer (sym x), b .read-block .ensures .1 ∙ ap (held _ _) (sym x))
+    record { answered = b .read-block .ensures .0 ∙ ap answer (sym x); kept = b .read-block .ensures .1 ∙ ap (held _ _) (sym x) }
 
 pub read-spec : {M : Type 1} → statement M
 read-spec =
     tie.close
     (tie.spec
     own-requires
+    refuse-requires
     returns
     lent-enough-requires
     own-requires-2
+    refuse-requires-2
     returns-2
     header-requires
     enum-known-r
-    refuse-requires
+    refuse-requires-3
     enum-known-h
     cast-size
     slice-aggregate-read-block

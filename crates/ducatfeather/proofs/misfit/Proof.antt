@@ -1,9 +1,0 @@
-use mathlib.Core.Path.{refl}
-use Rattle.ducatfeather.proofs.misfit.Statement.{statement}
-use Rattle.ducatfeather.proofs.misfit.Tie as tie
-
-returns : tie.Need-returns
-returns c = refl
-
-pub misfit-spec : {M : Type 1} → statement M
-misfit-spec = tie.close (tie.spec returns)
