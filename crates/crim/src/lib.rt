@@ -9,9 +9,7 @@ use format::field::CRIM_MINOR_VERSION;
 use format::field::CRIM_PROVIDER_COUNT;
 use format::field::CRIM_SIGNATURE;
 use format::field::CRIM_SIZE;
-
-// `CRIM` as a little-endian number.
-const CRIM: u32 = 0x4D495243;
+use format::signature::CRIM;
 
 // Size, versions and provider count, field by field, all of them before size is tested.
 pub fn header(b: &[u8]) -> CrimRead

@@ -5,48 +5,44 @@ ghost use lib.ListN.{length};
 ghost use Rattle.blob.specs.Reading.{run, done, verdict, values};
 ghost use Rattle.blob.specs.Laid.{laid, flat};
 ghost use Rattle.format.specs.Table.{header-length, stride};
-ghost use Rattle.format.specs.Definition.{channelFields, keywordFields, taskFields, plainFields, fieldsAt, name-field, named, definitionAt, definitionRead, definitionsAt};
+ghost use Rattle.format.specs.Definition.{channelFields, keywordFields, taskFields, plainFields, fieldsAt, name-field, named, definitionAt, definitionsAt};
 ghost use Rattle.format.specs.Lists.{definitionWords};
-ghost use Rattle.definition.specs.Records.{rows};
+ghost use Rattle.definition.specs.Records.{rows, name-place};
 use blob::Verdict;
 use format::Definition;
-use format::DefinitionRead;
 use format::EndRead;
 use format::Guid;
 use format::Header;
 use format::Name;
-use format::NameRead;
 use format::field::CHAN_NAME;
 use format::field::KEYW_DATA;
 use format::field::LEVL_DATA;
 use format::field::OPCO_DATA;
 use format::field::TASK_DATA;
+use format::kind::CHAN;
+use format::kind::KEYW;
+use format::kind::LEVL;
+use format::kind::OPCO;
+use format::kind::TASK;
 use name::absent;
 use table::header_length;
 use table::stride;
 use table::table_end;
 use words::guid_at;
-use words::put_four;
 
-// The field codes of names, by kind; 0 where it has none.
-const NAME_FIELDS: [u8; 9] = [
-    0,
-    CHAN_NAME,
-    0,
-    KEYW_DATA,
-    LEVL_DATA,
-    0,
-    OPCO_DATA,
-    TASK_DATA,
-    0,
-];
-
-// The field of a kind's names.
+// The field of a kind's names; 0 where it has none.
 fn name_field(kind: u32) -> u8
     requires { ⌜ kind ≤ 8 ⌝ }
     ensures { λ r. ⌜ r ≡ name-field kind ⌝ }
 {
-    NAME_FIELDS[kind as usize]
+    match kind {
+        CHAN => CHAN_NAME,
+        KEYW => KEYW_DATA,
+        LEVL => LEVL_DATA,
+        OPCO => OPCO_DATA,
+        TASK => TASK_DATA,
+        _ => 0,
+    }
 }
 
 // No GUID, of a kind that has none.
@@ -67,7 +63,7 @@ fn channel(b: &[u8], at: usize) -> Definition
     ensures { λ r. ⌜ run (channelFields at) (now (b .entry)) ≡ done r ⌝ }
 {
     Definition {
-        kind: 1,
+        kind: CHAN,
         low: blob::word(b, at),
         high: 0,
         message: blob::word(b, at + 12),
@@ -84,7 +80,7 @@ fn keyword(b: &[u8], at: usize) -> Definition
     ensures { λ r. ⌜ run (keywordFields at) (now (b .entry)) ≡ done r ⌝ }
 {
     Definition {
-        kind: 3,
+        kind: KEYW,
         low: blob::word(b, at),
         high: blob::word(b, at + 4),
         message: blob::word(b, at + 8),
@@ -101,7 +97,7 @@ fn task(b: &[u8], at: usize) -> Definition
     ensures { λ r. ⌜ run (taskFields at) (now (b .entry)) ≡ done r ⌝ }
 {
     Definition {
-        kind: 7,
+        kind: TASK,
         low: blob::word(b, at),
         high: 0,
         message: blob::word(b, at + 4),
@@ -135,9 +131,9 @@ fn fields_at(b: &[u8], kind: u32, at: usize) -> Definition
     ensures { λ r. ⌜ run (fieldsAt kind at) (now (b .entry)) ≡ done r ⌝ }
 {
     match kind {
-        1 => channel(b, at),
-        3 => keyword(b, at),
-        7 => task(b, at),
+        CHAN => channel(b, at),
+        KEYW => keyword(b, at),
+        TASK => task(b, at),
         _ => plain(b, kind, at),
     }
 }
@@ -151,16 +147,16 @@ fn with_name(d: Definition, n: Name) -> Definition
     out
 }
 
-// The definition whose record stands at a place.
-fn definition_at(b: &[u8], kind: u32, at: usize) -> DefinitionRead
-    requires { ⌜ (kind ≤ 8) × (12 ≤ stride kind) × (at + stride kind ≤ length (now b)) ⌝ }
-    requires { ⌜ length (now b) ≤ 16777216 ⌝ }
-    ensures { λ r. ⌜ r ≡ definitionRead (run (definitionAt kind at) (now (b .entry))) ⌝ }
+// Where the name offset stands in a kind's record.
+fn name_place(kind: u32) -> usize
+    requires { ⌜ 12 ≤ stride kind ⌝ }
+    ensures { λ r. ⌜ (r ≡ name-place kind) × (r + 4 ≤ stride kind) ⌝ }
 {
-    let d = fields_at(b, kind, at);
-    match name::name_at(b, b.len(), name_field(kind), d.offset) {
-        NameRead::Name(n) => DefinitionRead::Definition(with_name(d, n)),
-        NameRead::Refused(r) => DefinitionRead::Refused(r),
+    match kind {
+        CHAN => 4,
+        KEYW => 12,
+        TASK => 24,
+        _ => 8,
     }
 }
 
@@ -171,11 +167,14 @@ fn check_records(b: &[u8], kind: u32, start: usize, n: u32) -> Verdict
     ensures { λ r. ⌜ r ≡ verdict (run (rows kind (stride kind) n start) (now (b .entry))) ⌝ }
 {
     let bytes = stride(kind) as usize;
+    let field = name_field(kind);
+    let place = name_place(kind);
     let mut at = start;
     let mut left = n;
     while 0 < left {
-        let found = definition_at(b, kind, at);
-        if let DefinitionRead::Refused(r) = found {
+        let offset = blob::word(b, at + place);
+        let found = name::check(b, b.len(), field, offset);
+        if let Verdict::Refused(r) = found {
             return Verdict::Refused(r);
         }
         at += bytes;
@@ -197,21 +196,37 @@ pub fn check_definitions(b: &[u8], kind: u32, at: usize, h: Header) -> Verdict
     check_records(b, kind, at + header_length(kind) as usize, h.count)
 }
 
+// The definition whose record stands at a place, and whose name is known to be fine.
+fn definition_of(b: &[u8], kind: u32, at: usize) -> Definition
+    requires { ⌜ (kind ≤ 8) × (12 ≤ stride kind) × (at + stride kind ≤ length (now b)) ⌝ }
+    requires { ⌜ length (now b) ≤ 16777216 ⌝ }
+    requires { ⌜ verdict (run (definitionAt kind at) (now b)) ≡ Verdict.Fine ⌝ }
+    ensures { λ r. ⌜ run (definitionAt kind at) (now (b .entry)) ≡ done r ⌝ }
+{
+    let d = fields_at(b, kind, at);
+    with_name(d, name::name_of(b, b.len(), name_field(kind), d.offset))
+}
+
 // Stores a definition's words from a place of the area on.
 fn put_definition(area: &mut [u32], to: usize, d: Definition)
     requires { ⌜ to + 12 ≤ length (now area) ⌝ }
     ensures { λ _. ⌜ now (area .exit) ≡ laid (now (area .entry)) to (definitionWords d) ⌝ }
 {
-    put_four(area, to, d.kind, d.low, d.high, d.message);
-    put_four(
-        area,
-        to + 4,
+    let entry = [
+        d.kind,
+        d.low,
+        d.high,
+        d.message,
         d.offset,
         d.name.start,
         d.name.units,
         d.unknown,
-    );
-    put_four(area, to + 8, d.mui.a, d.mui.b, d.mui.c, d.mui.d);
+        d.mui.a,
+        d.mui.b,
+        d.mui.c,
+        d.mui.d,
+    ];
+    words::put(area, to, &entry);
 }
 
 // Stores the words of n records that `check_records` found fine.
@@ -227,10 +242,7 @@ fn fill_records(b: &[u8], kind: u32, start: usize, n: u32, area: &mut [u32])
     let mut left = n;
     let mut to = 0;
     while 0 < left {
-        let DefinitionRead::Definition(d) = definition_at(b, kind, at) else {
-            return;
-        };
-        put_definition(area, to, d);
+        put_definition(area, to, definition_of(b, kind, at));
         at += bytes;
         left -= 1;
         to += 12;

@@ -8,7 +8,6 @@ ghost use Rattle.format.specs.Definition.{step};
 ghost use Rattle.format.specs.Event.{eventAt};
 ghost use Rattle.format.specs.Lists.{eventWords};
 use format::Event;
-use words::put_four;
 
 // The event whose record stands at a place.
 fn event_at(b: &[u8], at: usize) -> Event
@@ -40,24 +39,25 @@ fn put_event(area: &mut [u32], to: usize, e: Event)
     requires { ⌜ to + 16 ≤ length (now area) ⌝ }
     ensures { λ _. ⌜ now (area .exit) ≡ laid (now (area .entry)) to (eventWords e) ⌝ }
 {
-    put_four(area, to, e.identifier, e.version, e.channel, e.level);
-    put_four(area, to + 4, e.opcode, e.task, e.low, e.high);
-    put_four(
-        area,
-        to + 8,
+    let entry = [
+        e.identifier,
+        e.version,
+        e.channel,
+        e.level,
+        e.opcode,
+        e.task,
+        e.low,
+        e.high,
         e.message,
         e.template,
         e.opcode_offset,
         e.level_offset,
-    );
-    put_four(
-        area,
-        to + 12,
         e.task_offset,
         e.unknown_count,
         e.unknown_offset,
         e.flags,
-    );
+    ];
+    words::put(area, to, &entry);
 }
 
 // Stores the words of n events whose records stand one after another from a place on.

@@ -22,7 +22,6 @@ use format::Header;
 use format::Map;
 use format::MapRead;
 use format::Name;
-use format::NameRead;
 use format::field::MAPS_MAP_OFFSET;
 use format::field::MAPS_MAP_SIGNATURE;
 use format::field::MAPS_OFFSETS_ARRAY;
@@ -32,12 +31,9 @@ use format::field::VMAP_HEADER;
 use format::field::VMAP_MAP_STRING;
 use format::field::VMAP_SIZE;
 use format::field::VMAP_SIZE_FIELD;
+use format::signature::BMAP;
+use format::signature::VMAP;
 use name::absent;
-
-// Signatures, as little-endian numbers.
-const VMAP: u32 = 0x50414D56;
-
-const BMAP: u32 = 0x50414D42;
 
 // How many of so many bytes from a place on lie before an end.
 fn cut(most: u32, at: usize, end: usize) -> u32
@@ -86,9 +82,12 @@ fn named_map(b: &[u8], at: usize, size: u32, string: u32, count: u32) -> MapRead
     requires { ⌜ (at + size ≤ length (now b)) × (length (now b) ≤ 16777216) × (16 + 8 * count ≤ size) ⌝ }
     ensures { λ r. ⌜ r ≡ namedMap at size string count (run (nameAt blob-end VMAP-map-string string) (now (b .entry))) ⌝ }
 {
-    match name::name_at(b, b.len(), VMAP_MAP_STRING, string) {
-        NameRead::Name(name) => MapRead::Map(value_map(at, size, string, count, name)),
-        NameRead::Refused(r) => MapRead::Refused(r),
+    match name::check(b, b.len(), VMAP_MAP_STRING, string) {
+        Verdict::Fine => {
+            let name = name::name_of(b, b.len(), VMAP_MAP_STRING, string);
+            MapRead::Map(value_map(at, size, string, count, name))
+        }
+        Verdict::Refused(r) => MapRead::Refused(r),
     }
 }
 
@@ -211,17 +210,21 @@ fn put_map(area: &mut [u32], to: usize, before: u32, m: Map)
     requires { ⌜ to + 11 ≤ length (now area) ⌝ }
     ensures { λ _. ⌜ now (area .exit) ≡ laid (now (area .entry)) to (mapWords before m) ⌝ }
 {
-    area[to] = m.kind;
-    area[to + 1] = m.signature;
-    area[to + 2] = m.offset;
-    area[to + 3] = m.size;
-    area[to + 4] = m.string;
-    area[to + 5] = m.name.start;
-    area[to + 6] = m.name.units;
-    area[to + 7] = pick(m.kind, 1, before, 0);
-    area[to + 8] = m.count;
-    area[to + 9] = m.start;
-    area[to + 10] = m.length;
+    let first = pick(m.kind, 1, before, 0);
+    let entry = [
+        m.kind,
+        m.signature,
+        m.offset,
+        m.size,
+        m.string,
+        m.name.start,
+        m.name.units,
+        first,
+        m.count,
+        m.start,
+        m.length,
+    ];
+    words::put(area, to, &entry);
 }
 
 // Stores the words of n maps; so many entries were stored before theirs, and so many with theirs.
@@ -272,10 +275,8 @@ fn put_entry(b: &[u8], at: usize, area: &mut [u32], to: usize)
     requires { ⌜ (at + 8 ≤ length (now b)) × (to + 2 ≤ length (now area)) ⌝ }
     ensures { λ _. ⌜ now (area .exit) ≡ laid (now (area .entry)) to (mapEntryWords (entry (now (b .entry)) at)) ⌝ }
 {
-    let identifier = blob::word(b, at);
-    let message = blob::word(b, at + 4);
-    area[to] = identifier;
-    area[to + 1] = message;
+    let entry = [blob::word(b, at), blob::word(b, at + 4)];
+    words::put(area, to, &entry);
 }
 
 // Stores the words of so many entries from a place on.

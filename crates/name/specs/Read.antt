@@ -1,32 +1,22 @@
--- What the answer for a name tells of its reading.
-use Prim.Native.Nat.{ℕ}
-use mathlib.Core.Path.{_≡_, _∙_}
+-- What a verdict tells of a reading, and of the first of several.
+use Prim.Native.Nat.{ℕ, _<_}
+use mathlib.Core.Path.{_≡_, refl, sym, _∙_}
 use mathlib.Core.List.{List}
 use native.Mathlib.Omega.{arith}
-use lib.ListN.{length}
 use Rattle.blob.specs.declared.Refusal.{Refusal}
-use Rattle.blob.specs.Reading.{Outcome, done, refused, run}
-use Rattle.format.specs.Region.{Region, until, end}
-use Rattle.format.specs.Name.{nameAt, nameRead}
-use Rattle.format.specs.Until.{name-until}
-use Rattle.format.specs.declared.Name.{Name}
-use Rattle.format.specs.declared.NameRead.the-variants as read
+use Rattle.blob.specs.declared.Verdict.the-variants as verdicts
+use Rattle.blob.specs.Reading.{Reading, Outcome, done, refused, run, many, verdict}
+use Rattle.blob.specs.Laws.{not-fine, many-stop}
 
--- the answer is for the region that ends where this one does
-module _ (region : Region) (f o : ℕ) (s : List ℕ) where
-  abbrev there : Outcome Name
-  there = run (nameAt (until (end (length s) region)) f o) s
+pub is-refused : {A : Type 0} (o : Outcome A) (r : Refusal) → verdicts.Refused r ≡ verdict o → o ≡ refused r
+is-refused (done m) r h = absurd (let z : _≡_ {A = ℕ} 0 1 = cc in omega arith)
+is-refused (refused q) r h = cc
 
-  pub is-name : (n : Name) → read.Name n ≡ nameRead there → run (nameAt region f o) s ≡ done n
-  is-name n h = name-until region f o s ∙ go there h
-    where
-      go : (x : Outcome Name) → read.Name n ≡ nameRead x → x ≡ done n
-      go (done m) g = cc
-      go (refused r) g = absurd (let z : _≡_ {A = ℕ} 0 1 = cc in omega arith)
-
-  pub is-refused : (r : Refusal) → read.Refused r ≡ nameRead there → run (nameAt region f o) s ≡ refused r
-  is-refused r h = name-until region f o s ∙ go there h
-    where
-      go : (x : Outcome Name) → read.Refused r ≡ nameRead x → x ≡ refused r
-      go (done m) g = absurd (let z : _≡_ {A = ℕ} 0 1 = cc in omega arith)
-      go (refused q) g = cc
+-- where all that are left are fine, the next one is
+pub first-fine : {S A : Type 0} (p : S → Reading A) (next : A → S → S) (left : ℕ) (at : S) (s : List ℕ) → 0 < left
+    → verdict (run (many p next left at) s) ≡ verdicts.Fine → verdict (run (p at) s) ≡ verdicts.Fine
+first-fine {S} {A} p next left at s h v = go (run (p at) s) refl
+  where
+    go : (o : Outcome A) → run (p at) s ≡ o → verdict o ≡ verdicts.Fine
+    go (done a) e = refl
+    go (refused r) e = absurd (not-fine r (sym (many-stop p next left at s r h e) ∙ v))

@@ -1,36 +1,48 @@
 -- What each test of a sized name decides, in the order of the tests.
 use Prim.Native.Nat.{ℕ, _+_, _-_, _/_, _%_, _≤_, _<_}
-use mathlib.Core.Path.{_≡_, ap, sym, _∙_}
+use mathlib.Core.Path.{_≡_, refl, ap, sym, _∙_}
 use mathlib.Core.List.{List}
-use mathlib.Core.Bool.{false}
+use mathlib.Core.Bool.{Bool, true, false}
 use native.Mathlib.Omega.{arith}
 use lib.Dec.{leb, eqb}
-use borrow.Author.Tests.{le-leb, lt-leb, eq-eqb, ne-eqb}
+use borrow.Author.Tests.{le-leb, lt-leb, leb-true, eq-eqb, ne-eqb}
 use Rattle.blob.specs.declared.Refusal.{Refusal}
 use Rattle.blob.specs.Le.{le}
-use Rattle.blob.specs.Laws.{answer-refused, run-number, run-holds, run-fails}
-use Rattle.blob.specs.Reading.{Reading, refused, demand, run}
+use Rattle.blob.specs.Laws.{never, fine-value, run-number, run-holds, run-fails}
+use Rattle.blob.specs.Reading.{Fault, Reading, done, refused, demand, run, verdict}
 use Rattle.format.specs.Refuse.{truncated, size-out, offset-out, not-utf16}
 use Rattle.format.specs.Region.{until, inside}
-use Rattle.format.specs.Name.{text, sized, nameAt, nameRead}
-use Rattle.format.specs.declared.Name.{Name}
-use Rattle.format.specs.declared.NameRead.{NameRead}
-use Rattle.format.specs.declared.NameRead.the-variants as read
+use Rattle.format.specs.Name.{text, sized, nameAt}
+use Rattle.blob.specs.declared.Verdict.the-variants as verdicts
 
--- a name whose offset is not 0 is there
-named : (e f o : ℕ) (s : List ℕ) → 0 < o → run (nameAt (until e) f o) s ≡ run (sized (until e) f o) s
-unfolding nameAt
-named e f o s h = rw (ne-eqb o 0 (λ z. omega arith))
-
--- what is answered where the offset is not 0
-module _ (e f o : ℕ) (s : List ℕ) (h : 0 < o) where
-  pub found : (r : NameRead) (p : Reading Name) → r ≡ nameRead (run p s) → run (sized (until e) f o) s ≡ run p s → r ≡ nameRead (run (nameAt (until e) f o) s)
-  found r p a g = a ∙ sym (ap nameRead (named e f o s h ∙ g))
-
-  pub refuses : (x y : Refusal) → x ≡ y → run (sized (until e) f o) s ≡ refused y → read.Refused x ≡ nameRead (run (nameAt (until e) f o) s)
-  refuses x y a g = answer-refused read.Name read.Refused _ x y a (named e f o s h ∙ g)
+-- a test before what is found holds
+demand-done : {A : Type 0} (t : Bool) (r : Fault) (k : Reading A) (s : List ℕ) (a : A) → run (demand t r k) s ≡ done a → (t ≡ true) × (run k s ≡ done a)
+unfolding run demand
+demand-done true r k s a h = (refl, h)
+demand-done false r k s a h = absurd (never _ _ h)
 
 module _ (e f o : ℕ) (s : List ℕ) where
+  -- a name whose offset is not 0 is there
+  pub present : (o ≡ 0 → ⊥) → run (nameAt (until e) f o) s ≡ run (sized (until e) f o) s
+  unfolding nameAt
+  present h = rw (ne-eqb o 0 h)
+
+  pub refuses : (x y : Refusal) → x ≡ y → run (sized (until e) f o) s ≡ refused y → verdicts.Refused x ≡ verdict (run (sized (until e) f o) s)
+  refuses x y a g = ap verdicts.Refused a ∙ sym (ap verdict g)
+
+  -- the size of a name that is fine is right, and it is its text
+  pub sized-fine : (size : ℕ) → size ≡ le 4 s o → (o ≡ 0 → ⊥) → verdict (run (nameAt (until e) f o) s) ≡ verdicts.Fine
+      → (4 ≤ size) × (o + size ≤ e) × (run (nameAt (until e) f o) s ≡ run (text f o ((size - 4) / 2) (o + 4) 0 false) s)
+  unfolding sized inside
+  sized-fine size z h v =
+      let n = fine-value _ (sym (ap verdict (present h)) ∙ v) in
+      let start = demand-done _ _ _ s _ (n .1) in
+      let word = demand-done _ _ _ s _ (start .1) in
+      let least = demand-done _ _ _ s _ (sym (run-number _ _ _ s) ∙ word .1) in
+      let most = demand-done _ _ _ s _ (least .1) in
+      let even = demand-done _ _ _ s _ (most .1) in
+      rw z (leb-true _ _ (least .0), leb-true _ _ (most .0), present h ∙ n .1 ∙ sym (even .1))
+
   pub sized-past : e < o → run (sized (until e) f o) s ≡ refused (offset-out f o .told e)
   unfolding sized inside
   sized-past h = run-fails _ _ _ _ (lt-leb _ _ h)

@@ -1,17 +1,18 @@
 -- What one unit makes of the rest of a text, a law for each kind of unit.
 use Prim.Native.Nat.{ℕ, zero, suc, _+_, _-_, _%_, _≤_, _<_}
-use mathlib.Core.Path.{_≡_, refl, ap, _∙_}
+use mathlib.Core.Path.{_≡_, refl, ap, sym, _∙_}
 use mathlib.Core.List.{List}
 use mathlib.Core.Bool.{Bool, true, false, _&&_}
 use native.Mathlib.Omega.{arith}
 use lib.Dec.{leb, ltb, eqb, leb·suc-suc}
 use borrow.Author.Tests.{le-leb, lt-leb, lt-ltb, le-ltb, eq-eqb, ne-eqb, ltb-true, ltb-false}
 use Rattle.blob.specs.Le.{le}
-use Rattle.blob.specs.Laws.{run-number}
-use Rattle.blob.specs.Reading.{Outcome, stop, done, refused, choose, demand, run}
+use Rattle.blob.specs.Laws.{run-number, fine-value, choose-done}
+use Rattle.blob.specs.Reading.{Outcome, stop, done, refused, choose, demand, run, verdict}
 use Rattle.format.specs.Refuse.{not-utf16}
 use Rattle.format.specs.Name.{high, low, text}
 use Rattle.format.specs.declared.Name.{Name}
+use Rattle.blob.specs.declared.Verdict.the-variants as verdicts
 
 -- whether what is a surrogate is a high one with a low one behind it
 abbrev pub pairs : List ℕ → ℕ → ℕ → Bool
@@ -25,6 +26,13 @@ below (suc u) = u
 -- the sum of four units from a place on, each one less
 abbrev pub lows : List ℕ → ℕ → ℕ
 lows s at = ((below (le 2 s at) + below (le 2 s (at + 2))) + below (le 2 s (at + 4))) + below (le 2 s (at + 6))
+
+-- what a text is by how many of its n units stand before its zero unit; more than n where it is none
+abbrev pub texted : (f o n r : ℕ) → Outcome Name
+texted f o n r = choose (leb r n) (done (record { start = o + 4; units = r; ended = ltb r n })) (refused (not-utf16 f o .told 0))
+
+pub texted-fine : (f o n r : ℕ) → verdict (texted f o n r) ≡ verdicts.Fine → texted f o n r ≡ done (record { start = o + 4; units = r; ended = ltb r n })
+texted-fine f o n r v = let m = fine-value (texted f o n r) v in m .1 ∙ sym (choose-done (leb r n) _ _ (m .0) (m .1) .1)
 
 -- a unit within two bounds, below the first, and past the second
 module _ (a b u : ℕ) where
@@ -46,13 +54,13 @@ nonzero : {u : ℕ} → 0 < u → eqb u 0 ≡ false
 nonzero {u} h = ne-eqb u 0 (λ q. omega arith)
 
 module _ (f o : ℕ) (s : List ℕ) (left at k : ℕ) where
-  pub text-none : (k' : ℕ) → k' ≡ k → left ≤ 0 → run (text f o left at k false) s ≡ done (record { start = o + 4; units = k'; ended = false })
+  pub text-none : (n : ℕ) → n ≡ k → left ≤ 0 → run (text f o left at k false) s ≡ texted f o n n
   unfolding text run demand
-  text-none k' g h = let e : left ≡ 0 = omega arith in rw (e, g)
+  text-none n g h = let e : left ≡ 0 = omega arith in rw (e, g, le-leb k k (omega arith), le-ltb k k (omega arith))
 
-  pub text-zero : 0 < left → le 2 s at ≡ 0 → run (text f o left at k false) s ≡ done (record { start = o + 4; units = k; ended = true })
+  pub text-zero : (n : ℕ) → k < n → 0 < left → le 2 s at ≡ 0 → run (text f o left at k false) s ≡ texted f o n k
   unfolding text run
-  text-zero h z = ap (λ n. run (text f o n at k false) s) (more h) ∙ rw (run-number, eq-eqb _ _ z)
+  text-zero n g h z = ap (λ m. run (text f o m at k false) s) (more h) ∙ rw (run-number, eq-eqb _ _ z, le-leb k n (omega arith), lt-ltb k n g)
 
   -- a unit that is not 0 and no surrogate
   passed : (left' k' : ℕ) → left ≡ suc left' → k' ≡ k + 1 → 0 < le 2 s at → low (le 2 s at) ≡ false → high (le 2 s at) ≡ false
@@ -106,9 +114,9 @@ module _ (f o : ℕ) (s : List ℕ) where
     unfolding after
     text-pair k' e p = text-surrogate left at k h d g ∙ rw (p, e)
 
-    pub text-unpaired : pairs s at left ≡ false → run (text f o left at k false) s ≡ refused (not-utf16 f o .told 0)
+    pub text-unpaired : (n r : ℕ) → n < r → pairs s at left ≡ false → run (text f o left at k false) s ≡ texted f o n r
     unfolding after
-    text-unpaired p = text-surrogate left at k h d g ∙ rw p
+    text-unpaired n r w p = text-surrogate left at k h d g ∙ rw (p, lt-leb _ _ w)
 
 -- a pair is two units
 pub pairs-two : (s : List ℕ) (at left : ℕ) → pairs s at left ≡ true → 1 < left

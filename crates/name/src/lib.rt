@@ -5,13 +5,13 @@ ghost use Prim.Native.Nat.{_+_, _*_, _≤_};
 ghost use lib.Dec.{leb, ltb};
 ghost use lib.ListN.{length};
 ghost use Rattle.blob.specs.Le.{le};
-ghost use Rattle.blob.specs.Reading.{run};
-ghost use Rattle.format.specs.Name.{text, nameAt, nameRead};
+ghost use Rattle.blob.specs.Reading.{run, done, verdict};
+ghost use Rattle.format.specs.Name.{text, sized, nameAt};
 ghost use Rattle.format.specs.Name as spec;
 ghost use Rattle.format.specs.Region.{until};
-ghost use Rattle.name.specs.Text.{pairs, below, lows};
+ghost use Rattle.name.specs.Text.{pairs, below, lows, texted};
+use blob::Verdict;
 use format::Name;
-use format::NameRead;
 
 // Whether a surrogate is a high one with a low one behind it; so many units are left, the surrogate among them.
 fn paired(b: &[u8], at: usize, left: u32, unit: u32) -> bool
@@ -53,14 +53,17 @@ fn four(b: &[u8], at: usize, left: u32) -> bool
     first + second + third + fourth < 0xD7FF
 }
 
-// The text of n units behind the size word of a name. First go low units, four at a time, then whatever is left, one at a time: an
-// ordinary unit takes two comparisons; a high surrogate takes the unit behind it along, so that none waits from one turn to the next.
-fn units(b: &[u8], field: u8, offset: u32, n: u32) -> NameRead
+// What `units` tells of a text that is no UTF-16: more than the units of any.
+const NOT_UTF16: u32 = 4294967295;
+
+// How many of the n units behind the size word of a name stand before its zero unit; all where it has none, NOT_UTF16 where they are no
+// text. First go low units, four at a time, then whatever is left, one at a time: an ordinary unit takes two comparisons; a high surrogate
+// takes the unit behind it along, so that none waits from one turn to the next.
+fn units(b: &[u8], field: u8, offset: u32, n: u32) -> u32
     requires { ⌜ (offset + 4 + 2 * n ≤ length (now b)) × (length (now b) ≤ 16777216) ⌝ }
-    ensures { λ r. ⌜ r ≡ nameRead (run (text field offset n (offset + 4) 0 false) (now (b .entry))) ⌝ }
+    ensures { λ r. ⌜ run (text field offset n (offset + 4) 0 false) (now (b .entry)) ≡ texted field offset n r ⌝ }
 {
-    let start = offset + 4;
-    let mut at = start as usize;
+    let mut at = offset as usize + 4;
     let mut left = n;
     while four(b, at, left) {
         at += 8;
@@ -70,12 +73,7 @@ fn units(b: &[u8], field: u8, offset: u32, n: u32) -> NameRead
         let unit = blob::half(b, at);
         if unit < 0xD800 {
             if unit == 0 {
-                let passed = n - left;
-                return NameRead::Name(Name {
-                    start,
-                    units: passed,
-                    ended: true,
-                });
+                return n - left;
             }
         } else if unit < 0xE000 {
             if paired(b, at, left, unit) {
@@ -83,17 +81,12 @@ fn units(b: &[u8], field: u8, offset: u32, n: u32) -> NameRead
                 left -= 2;
                 continue;
             }
-            return NameRead::Refused(bounds::not_utf16(field, offset as usize));
+            return NOT_UTF16;
         }
         at += 2;
         left -= 1;
     }
-    let ended = false;
-    NameRead::Name(Name {
-        start,
-        units: n,
-        ended,
-    })
+    n
 }
 
 // No name.
@@ -107,32 +100,63 @@ pub fn absent() -> Name
     }
 }
 
-// The name at an offset, in a region that ends at `end`. The callers test the blob's length first, so that a text's start fits 32 bits.
-pub fn name_at(b: &[u8], end: usize, field: u8, offset: u32) -> NameRead
+// Whether the name at an offset that is not 0 is fine.
+fn check_sized(b: &[u8], end: usize, field: u8, offset: u32) -> Verdict
     requires { ⌜ (end ≤ length (now b)) × (length (now b) ≤ 16777216) ⌝ }
-    ensures { λ r. ⌜ r ≡ nameRead (run (nameAt (until end) field offset) (now (b .entry))) ⌝ }
+    ensures { λ r. ⌜ r ≡ verdict (run (sized (until end) field offset) (now (b .entry))) ⌝ }
 {
-    if offset == 0 {
-        return NameRead::Name(absent());
-    }
     let at = offset as usize;
     if end < at {
-        return NameRead::Refused(bounds::offset_out(end, field, at));
+        return Verdict::Refused(bounds::offset_out(end, field, at));
     }
     let room = end - at;
     if room < 4 {
-        return NameRead::Refused(bounds::truncated(end, field, at, 4));
+        return Verdict::Refused(bounds::truncated(end, field, at, 4));
     }
     let size = blob::word(b, at);
     if size < 4 {
-        return NameRead::Refused(bounds::size_out(field, at, size));
+        return Verdict::Refused(bounds::size_out(field, at, size));
     }
     let needed = size as usize;
     if room < needed {
-        return NameRead::Refused(bounds::truncated(end, field, at, needed));
+        return Verdict::Refused(bounds::truncated(end, field, at, needed));
     }
     if size % 2 != 0 {
-        return NameRead::Refused(bounds::not_utf16(field, at));
+        return Verdict::Refused(bounds::not_utf16(field, at));
     }
-    units(b, field, offset, (size - 4) / 2)
+    let n = (size - 4) / 2;
+    if n < units(b, field, offset, n) {
+        return Verdict::Refused(bounds::not_utf16(field, at));
+    }
+    Verdict::Fine
+}
+
+// Whether the name at an offset is fine, in a region that ends at `end`. The callers test the blob's length first, so that a text's start
+// fits 32 bits.
+pub fn check(b: &[u8], end: usize, field: u8, offset: u32) -> Verdict
+    requires { ⌜ (end ≤ length (now b)) × (length (now b) ≤ 16777216) ⌝ }
+    ensures { λ r. ⌜ r ≡ verdict (run (nameAt (until end) field offset) (now (b .entry))) ⌝ }
+{
+    if offset == 0 {
+        return Verdict::Fine;
+    }
+    check_sized(b, end, field, offset)
+}
+
+// The name at an offset that `check` found fine.
+pub fn name_of(b: &[u8], end: usize, field: u8, offset: u32) -> Name
+    requires { ⌜ (end ≤ length (now b)) × (length (now b) ≤ 16777216) ⌝ }
+    requires { ⌜ verdict (run (nameAt (until end) field offset) (now b)) ≡ Verdict.Fine ⌝ }
+    ensures { λ r. ⌜ run (nameAt (until end) field offset) (now (b .entry)) ≡ done r ⌝ }
+{
+    if offset == 0 {
+        return absent();
+    }
+    let n = (blob::word(b, offset as usize) - 4) / 2;
+    let found = units(b, field, offset, n);
+    Name {
+        start: offset + 4,
+        units: found,
+        ended: found < n,
+    }
 }

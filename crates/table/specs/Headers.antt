@@ -1,14 +1,13 @@
 -- What a reading of a table's header finds, way by way.
 use Prim.Native.Nat.{ℕ, zero, suc, _+_, _-_, _*_, _≤_, _<_}
-use mathlib.Core.Path.{_≡_}
-use mathlib.Core.List.{List, [], _∷_}
+use mathlib.Core.Path.{_≡_, refl}
+use mathlib.Core.List.{List}
 use native.Mathlib.Nat.{mul-le-mul}
 use native.Mathlib.Omega.{arith}
-use lib.ListN.{length, getD}
+use lib.ListN.{length}
 use lib.Dec.{eqb}
 use borrow.Author.Tests.{eq-eqb, ne-eqb, le-leb, lt-leb, leb-true}
 use Rattle.blob.specs.Le.{le}
-use Rattle.blob.specs.Places.{Each}
 use Rattle.blob.specs.Reading.{done, refused, run}
 use Rattle.blob.specs.Laws.{run-number, run-room, run-past, run-holds, run-fails, run-after, run-stopped}
 use Rattle.blob.specs.Finds.{Finds, finds-got, finds-room, finds-choose, finds-demand, finds-bind}
@@ -17,23 +16,41 @@ use Rattle.format.specs.Refuse.{offset-out, truncated, wrong-signature, size-ou
 use Rattle.format.specs.Region.{bounded}
 use Rattle.blob.specs.declared.Refusal.{Refusal}
 use Rattle.format.specs.declared.Header.{Header}
-use Rattle.format.specs.Table.{signature, header-length, stride, headerAt, tableEnd}
+use Rattle.format.specs.Table.{CHAN, EVNT, KEYW, LEVL, MAPS, OPCO, TASK, TTBL, signature, header-length, stride, headerAt, tableEnd}
 
--- what holds of each number of a list holds of the one at a place
-each-getD : (P : ℕ → Type 0) (l : List ℕ) → Each P l → (i : ℕ) → i < length l → P (getD l i 0)
-each-getD P [] h i g = absurd (omega arith)
-each-getD P (x ∷ l) h zero g = h .0
-each-getD P (x ∷ l) h (suc i) g = each-getD P l (h .1) i (omega arith)
+-- what holds of nine numbers holds of each kind's
+pub of-kinds : (P : ℕ → Type 0) → P 0 → P 1 → P 2 → P 3 → P 4 → P 5 → P 6 → P 7 → P 8 → (k : ℕ) → k ≤ 8 → P k
+of-kinds P a b c d e f g h i zero w = a
+of-kinds P a b c d e f g h i (suc zero) w = b
+of-kinds P a b c d e f g h i (suc (suc zero)) w = c
+of-kinds P a b c d e f g h i (suc (suc (suc zero))) w = d
+of-kinds P a b c d e f g h i (suc (suc (suc (suc zero)))) w = e
+of-kinds P a b c d e f g h i (suc (suc (suc (suc (suc zero))))) w = f
+of-kinds P a b c d e f g h i (suc (suc (suc (suc (suc (suc zero)))))) w = g
+of-kinds P a b c d e f g h i (suc (suc (suc (suc (suc (suc (suc zero))))))) w = h
+of-kinds P a b c d e f g h i (suc (suc (suc (suc (suc (suc (suc (suc zero)))))))) w = i
+of-kinds P a b c d e f g h i (suc (suc (suc (suc (suc (suc (suc (suc (suc k))))))))) w = absurd (omega arith)
 
 -- a header has at least 12 bytes, and at most 16
 pub header-bytes : (k : ℕ) → 1 ≤ k → k ≤ 8 → (12 ≤ header-length k) × (header-length k ≤ 16)
 header-bytes k h g =
-    let e : k ≡ suc (k - 1) = omega arith in
-    rw e (each-getD (λ n. (12 ≤ n) × (n ≤ 16)) (12 ∷ 16 ∷ 12 ∷ 12 ∷ 16 ∷ 12 ∷ 12 ∷ 12 ∷ []) (omega arith) (k - 1) (omega arith))
+    of-kinds (λ k. 1 ≤ k → (12 ≤ header-length k) × (header-length k ≤ 16)) (λ h. absurd (omega arith)) (λ h. omega arith) (λ h. omega arith) (λ h. omega arith) (λ h. omega arith) (λ h. omega arith) (λ h. omega arith) (λ h. omega arith) (λ h. omega arith) k g h
 
--- a record has at most 48 bytes
-pub record-bytes : (k : ℕ) → k ≤ 8 → stride k ≤ 48
-record-bytes k g = each-getD (λ n. n ≤ 48) (0 ∷ 16 ∷ 48 ∷ 16 ∷ 12 ∷ 0 ∷ 12 ∷ 28 ∷ 0 ∷ []) (omega arith) k (omega arith)
+-- what those have that have nothing of their own
+abbrev pub no : ℕ → ℕ → Type 0
+no k n = k ≡ n → ⊥
+
+pub no-signature : (k : ℕ) → k ≤ 8 → no k CHAN → no k EVNT → no k KEYW → no k LEVL → no k MAPS → no k OPCO → no k TASK → no k TTBL → signature k ≡ 0
+no-signature =
+    of-kinds (λ k. no k CHAN → no k EVNT → no k KEYW → no k LEVL → no k MAPS → no k OPCO → no k TASK → no k TTBL → signature k ≡ 0) (λ a b c d e f g h. refl) (λ a b c d e f g h. absurd (a refl)) (λ a b c d e f g h. absurd (b refl)) (λ a b c d e f g h. absurd (c refl)) (λ a b c d e f g h. absurd (d refl)) (λ a b c d e f g h. absurd (e refl)) (λ a b c d e f g h. absurd (f refl)) (λ a b c d e f g h. absurd (g refl)) (λ a b c d e f g h. absurd (h refl))
+
+pub short-header : (k : ℕ) → k ≤ 8 → 1 ≤ k → no k EVNT → no k MAPS → header-length k ≡ 12
+short-header =
+    of-kinds (λ k. 1 ≤ k → no k EVNT → no k MAPS → header-length k ≡ 12) (λ h a b. absurd (omega arith)) (λ h a b. refl) (λ h a b. absurd (a refl)) (λ h a b. refl) (λ h a b. refl) (λ h a b. absurd (b refl)) (λ h a b. refl) (λ h a b. refl) (λ h a b. refl)
+
+pub no-stride : (k : ℕ) → k ≤ 8 → no k CHAN → no k EVNT → no k KEYW → no k LEVL → no k OPCO → no k TASK → stride k ≡ 0
+no-stride =
+    of-kinds (λ k. no k CHAN → no k EVNT → no k KEYW → no k LEVL → no k OPCO → no k TASK → stride k ≡ 0) (λ a b c d e f. refl) (λ a b c d e f. absurd (a refl)) (λ a b c d e f. absurd (b refl)) (λ a b c d e f. absurd (c refl)) (λ a b c d e f. absurd (d refl)) (λ a b c d e f. refl) (λ a b c d e f. absurd (e refl)) (λ a b c d e f. absurd (f refl)) (λ a b c d e f. refl)
 
 module _ (k at : ℕ) (s : List ℕ) where
   pub header-past : length s < at → run (headerAt k at) s ≡ refused (offset-out (table-offset k) at .told (length s))

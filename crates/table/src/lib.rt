@@ -12,30 +12,32 @@ use format::field::TABLE_ARRAY;
 use format::field::TABLE_HEADER;
 use format::field::TABLE_OFFSET;
 use format::field::TABLE_SIZE;
+use format::kind::CHAN;
+use format::kind::EVNT;
+use format::kind::KEYW;
+use format::kind::LEVL;
+use format::kind::MAPS;
+use format::kind::OPCO;
+use format::kind::TASK;
+use format::kind::TTBL;
+use format::signature;
 
-// What each kind has, by its number; 0 where it has none.
-const SIGNATURES: [u32; 9] = [
-    0,
-    0x4E414843,
-    0x544E5645,
-    0x5759454B,
-    0x4C56454C,
-    0x5350414D,
-    0x4F43504F,
-    0x4B534154,
-    0x4C425454,
-];
-
-const HEADER_LENGTHS: [u32; 9] = [0, 12, 16, 12, 12, 16, 12, 12, 12];
-
-const STRIDES: [u32; 9] = [0, 16, 48, 16, 12, 0, 12, 28, 0];
-
-// The signature of a kind.
+// The signature of a kind; 0 where it has none.
 fn signature(kind: u32) -> u32
     requires { ⌜ kind ≤ 8 ⌝ }
     ensures { λ r. ⌜ r ≡ spec.signature kind ⌝ }
 {
-    SIGNATURES[kind as usize]
+    match kind {
+        CHAN => signature::CHAN,
+        EVNT => signature::EVNT,
+        KEYW => signature::KEYW,
+        LEVL => signature::LEVL,
+        MAPS => signature::MAPS,
+        OPCO => signature::OPCO,
+        TASK => signature::TASK,
+        TTBL => signature::TTBL,
+        _ => 0,
+    }
 }
 
 // The bytes before a kind's first record.
@@ -43,15 +45,27 @@ pub fn header_length(kind: u32) -> u32
     requires { ⌜ (1 ≤ kind) × (kind ≤ 8) ⌝ }
     ensures { λ r. ⌜ (r ≡ spec.header-length kind) × (12 ≤ r) × (r ≤ 16) ⌝ }
 {
-    HEADER_LENGTHS[kind as usize]
+    match kind {
+        EVNT => 16,
+        MAPS => 16,
+        _ => 12,
+    }
 }
 
-// The bytes of a kind's record.
+// The bytes of a kind's record; 0 where it has none.
 pub fn stride(kind: u32) -> u32
     requires { ⌜ kind ≤ 8 ⌝ }
     ensures { λ r. ⌜ (r ≡ spec.stride kind) × (r ≤ 48) ⌝ }
 {
-    STRIDES[kind as usize]
+    match kind {
+        CHAN => 16,
+        EVNT => 48,
+        KEYW => 16,
+        LEVL => 12,
+        OPCO => 12,
+        TASK => 28,
+        _ => 0,
+    }
 }
 
 // The bytes of so many records of a kind.

@@ -24,11 +24,8 @@ use format::field::TEMP_SIZE;
 use format::field::TEMP_TEMPLATE_ITEMS_OFFSET;
 use format::field::TEMP_TEMPLATE_ITEMS_OFFSET_RELATIVE;
 use format::field::TTBL_SIZE;
+use format::signature::TEMP;
 use words::guid_at;
-use words::put_four;
-
-// `TEMP` as a little-endian number.
-const TEMP: u32 = 0x504D4554;
 
 // Where a TEMP's items stand, from the TEMP's place, its size and its items offset.
 fn items_of(temp: BlobPlace, size: u32, offset: BlobPlace) -> Items
@@ -186,9 +183,21 @@ fn put(area: &mut [u32], to: usize, t: Template)
     ensures { λ _. ⌜ now (area .exit) ≡ laid (now (area .entry)) to (templateWords t) ⌝ }
 {
     let g = t.guid;
-    put_four(area, to, t.offset, t.size, t.descriptors, t.names);
-    put_four(area, to + 4, t.items, t.event, g.a, g.b);
-    put_four(area, to + 8, g.c, g.d, t.start, t.length);
+    let entry = [
+        t.offset,
+        t.size,
+        t.descriptors,
+        t.names,
+        t.items,
+        t.event,
+        g.a,
+        g.b,
+        g.c,
+        g.d,
+        t.start,
+        t.length,
+    ];
+    words::put(area, to, &entry);
 }
 
 // Stores the words of n TEMPs that `check_until` found fine.

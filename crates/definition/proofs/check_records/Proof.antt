@@ -8,16 +8,16 @@ use Rattle.blob.specs.Reading.{run, verdict}
 use Rattle.blob.specs.Laws.{many-more, many-stop, many-none}
 use Rattle.format.specs.Table.{stride}
 use Rattle.format.specs.Definition.{definitionAt, step}
-use Rattle.definition.specs.Records.{rows, one-less, is-definition, is-refused}
+use Rattle.definition.specs.Records.{rows, one-less, record-refused, record-found}
 use Rattle.definition.proofs.check_records.Statement.{statement}
 use Rattle.definition.proofs.check_records.Tie as tie
 
 abbrev Inv-loop : tie.InvT-loop
-Inv-loop b kind start n bytes at₀ left₀ at left =
+Inv-loop b kind start n bytes field place at₀ left₀ at left =
     (at + bytes * left ≤ length b) × (verdict (run (rows kind (stride kind) n start) b) ≡ verdict (run (rows kind bytes left at) b))
 
 abbrev μ-loop : tie.MeasureT-loop
-μ-loop b kind start n bytes at₀ left₀ at left = left
+μ-loop b kind start n bytes field place at₀ left₀ at left = left
 
 stride-requires : tie.Need-stride-requires Inv-loop μ-loop
 stride-requires c κs = search needs
@@ -25,11 +25,27 @@ stride-requires c κs = search needs
 cast-bytes : tie.Need-cast-bytes Inv-loop μ-loop
 cast-bytes c = search needs
 
-loop-holds : tie.Need-loop-holds Inv-loop μ-loop
-loop-holds c = (rw (c .stride .ensures .0) (search needs), rw (c .stride .ensures .0))
+name-field-requires : tie.Need-name-field-requires Inv-loop μ-loop
+name-field-requires c κs = search needs
 
-definition-at-requires : tie.Need-definition-at-requires Inv-loop μ-loop
-definition-at-requires c κs = let l = one-less (c .before .before .stride .result) (c .before .loop .left) (c .loop-test .taken) in search needs
+name-place-requires : tie.Need-name-place-requires Inv-loop μ-loop
+name-place-requires c κs = search needs
+
+loop-holds : tie.Need-loop-holds Inv-loop μ-loop
+loop-holds c = let e = c .before .before .stride .ensures .0 in (rw e (search needs), rw e)
+
+add-word : tie.Need-add-word Inv-loop μ-loop
+add-word c =
+    let l = c .before in
+    omega (arith, one-less (l .before .before .before .stride .result) (l .loop .left) (c .loop-test .taken))
+
+word-requires : tie.Need-word-requires Inv-loop μ-loop
+word-requires c κs =
+    let l = c .before in
+    omega (arith, one-less (l .before .before .before .stride .result) (l .loop .left) (c .loop-test .taken))
+
+check-requires : tie.Need-check-requires Inv-loop μ-loop
+check-requires c κs = search needs
 
 enum-known-found : tie.Need-enum-known-found Inv-loop μ-loop
 enum-known-found c = search needs
@@ -37,16 +53,20 @@ enum-known-found c = search needs
 returns : tie.Need-returns Inv-loop μ-loop
 returns c =
     let m = c .before .before .before in
-    sym (m .before .before .loop .inv .1
-    ∙ many-stop (definitionAt _) (step _) _ _ _ _ (m .before .loop-test .taken) (is-refused _ _ (sym (c .before .found .given .1) ∙ m .definition-at .ensures)))
+    let w = m .before in
+    let l = w .before .before in
+    let p = l .before in
+    sym (l .loop .inv .1
+    ∙ many-stop (definitionAt _) (step _) _ _ _ _ (w .before .loop-test .taken)
+    (record-refused _ _ _ _ (p .before .name-field .ensures) _ (p .name-place .ensures .0) _ (w .word .ensures) _ (sym (c .before .found .given .1) ∙ m .check .ensures)))
 
 enum-told : tie.Need-enum-told Inv-loop μ-loop
 enum-told c = search needs
 
 add-at : tie.Need-add-at Inv-loop μ-loop
 add-at c =
-    let m = c .before .before in
-    omega (arith, one-less (m .before .before .before .stride .result) (m .before .before .loop .left) (m .before .loop-test .taken))
+    let i = c .before .before .before .before in
+    omega (arith, one-less (i .before .before .before .before .stride .result) (i .before .loop .left) (i .loop-test .taken))
 
 sub-left : tie.Need-sub-left Inv-loop μ-loop
 sub-left c = search needs
@@ -57,10 +77,12 @@ loop-less c = search needs
 loop-again : tie.Need-loop-again Inv-loop μ-loop
 loop-again c =
     let m = c .before .before in
-    let l = m .before .before in (
-      omega (arith, one-less (l .before .stride .result) (l .loop .left) (m .before .loop-test .taken)),
-      l .loop .inv .1
-          ∙ many-more (definitionAt _) (step _) _ _ _ _ (m .before .loop-test .taken) (is-definition _ _ (sym (c .enum-told .given .1) ∙ m .definition-at .ensures)),
+    let w = m .before in
+    let l = w .before .before in
+    let p = l .before in
+    let found = record-found _ _ _ _ (p .before .name-field .ensures) _ (p .name-place .ensures .0) _ (w .word .ensures) (sym (c .enum-told .given .1) ∙ m .check .ensures) in (
+      omega (arith, one-less (p .before .before .stride .result) (l .loop .left) (w .before .loop-test .taken)),
+      l .loop .inv .1 ∙ many-more (definitionAt _) (step _) _ _ _ _ (w .before .loop-test .taken) (found .1),
     )
 
 returns-2 : tie.Need-returns-2 Inv-loop μ-loop
@@ -74,8 +96,12 @@ check-records-spec =
     μ-loop
     stride-requires
     cast-bytes
+    name-field-requires
+    name-place-requires
     loop-holds
-    definition-at-requires
+    add-word
+    word-requires
+    check-requires
     enum-known-found
     returns
     enum-told

@@ -6,11 +6,12 @@ use borrow.Author.Needs.{needs}
 use lib.ListN.{length}
 use Rattle.blob.specs.declared.Verdict.the-variants as verdicts
 use Rattle.blob.specs.Reading.{run, verdict}
-use Rattle.blob.specs.Laws.{many-more, many-stop, not-fine, rest, rest-more, rest-none}
+use Rattle.blob.specs.Laws.{many-more, rest, rest-more, rest-none}
 use Rattle.format.specs.Table.{stride}
 use Rattle.format.specs.Definition.{definitionAt, step}
 use Rattle.format.specs.Lists.{definitionWords}
-use Rattle.definition.specs.Records.{rows, one-less, is-definition, is-refused}
+use Rattle.definition.specs.Records.{rows, one-less}
+use Rattle.name.specs.Read.{first-fine}
 use Rattle.definition.proofs.fill_records.Statement.{statement}
 use Rattle.definition.proofs.fill_records.Tie as tie
 
@@ -34,30 +35,19 @@ cast-bytes c = search needs
 loop-holds : tie.Need-loop-holds Inv-loop μ-loop
 loop-holds c = let e = c .stride .ensures .0 in (rw e (search needs), search needs, refl, rw e (search needs), rw e)
 
-definition-at-requires : tie.Need-definition-at-requires Inv-loop μ-loop
-definition-at-requires c κs = let l = one-less (c .before .before .stride .result) (c .before .loop .left) (c .loop-test .taken) in search needs
-
-enum-known-d : tie.Need-enum-known-d Inv-loop μ-loop
-enum-known-d c = search needs
-
-enum-told : tie.Need-enum-told Inv-loop μ-loop
-enum-told c = search needs
-
-same-length : tie.Need-same-length Inv-loop μ-loop
-same-length c = search needs
-
-returns : tie.Need-returns Inv-loop μ-loop
-returns c =
-    let m = c .before .before in
-    let stop = many-stop (definitionAt _) (step _) _ _ _ _ (m .before .loop-test .taken) (is-refused _ _ (sym (c .enum-told .given .1) ∙ m .definition-at .ensures)) in
-    absurd (not-fine _ (sym stop ∙ m .before .before .loop .inv .3))
+definition-of-requires : tie.Need-definition-of-requires Inv-loop μ-loop
+definition-of-requires c κs =
+    let l = c .before .before in
+    let o = one-less (l .before .stride .result) (l .loop .left) (c .before .loop-test .taken) in
+    let v = first-fine (definitionAt _) (step _) _ _ _ (c .before .loop-test .taken) (l .loop .inv .3) in
+    search needs
 
 put-definition-requires : tie.Need-put-definition-requires Inv-loop μ-loop
 put-definition-requires c κs = search needs
 
 add-at : tie.Need-add-at Inv-loop μ-loop
 add-at c =
-    let i = c .before .before .before .before .before .before .before .before in
+    let i = c .before .before .before .before .before in
     omega (arith, one-less (i .before .before .stride .result) (i .before .loop .left) (i .loop-test .taken))
 
 sub-left : tie.Need-sub-left Inv-loop μ-loop
@@ -72,23 +62,22 @@ loop-less c = search needs
 loop-again : tie.Need-loop-again Inv-loop μ-loop
 loop-again c =
     let p = c .before .before in
-    let d = p .before .before .before in
-    let m = d .before .before in
-    let l = m .before .before in
+    let i = p .before .before .before in
+    let l = i .before in
     let inv = l .loop .inv in
-    let found = is-definition _ _ (sym (d .d .given .1) ∙ m .definition-at .ensures) in (
-      omega (arith, one-less (l .before .stride .result) (l .loop .left) (m .before .loop-test .taken)),
+    let found = p .before .definition-of .ensures in (
+      omega (arith, one-less (l .before .stride .result) (l .loop .left) (i .loop-test .taken)),
       omega (arith, p .put-definition .kept .0),
       p .put-definition .kept .0 ∙ inv .2,
-      sym (many-more (definitionAt _) (step _) _ _ _ _ (m .before .loop-test .taken) found) ∙ inv .3,
-      inv .4 ∙ rest-more (definitionAt _) (step _) definitionWords _ _ _ _ _ _ _ (p .put-definition .ensures) (m .before .loop-test .taken) found (inv .3),
+      sym (many-more (definitionAt _) (step _) _ _ _ _ (i .loop-test .taken) found) ∙ inv .3,
+      inv .4 ∙ rest-more (definitionAt _) (step _) definitionWords _ _ _ _ _ _ _ (p .put-definition .ensures) (i .loop-test .taken) found (inv .3),
     )
 
-same-length-2 : tie.Need-same-length-2 Inv-loop μ-loop
-same-length-2 c = search needs
+same-length : tie.Need-same-length Inv-loop μ-loop
+same-length c = search needs
 
-returns-2 : tie.Need-returns-2 Inv-loop μ-loop
-returns-2 c = sym (c .before .loop .inv .4 ∙ rest-none (definitionAt _) (step _) definitionWords _ _ _ _ _ (c .loop-test .left))
+returns : tie.Need-returns Inv-loop μ-loop
+returns c = sym (c .before .loop .inv .4 ∙ rest-none (definitionAt _) (step _) definitionWords _ _ _ _ _ (c .loop-test .left))
 
 pub fill-records-spec : {M : Type 1} → statement M
 fill-records-spec =
@@ -99,16 +88,12 @@ fill-records-spec =
     stride-requires
     cast-bytes
     loop-holds
-    definition-at-requires
-    enum-known-d
-    enum-told
-    same-length
-    returns
+    definition-of-requires
     put-definition-requires
     add-at
     sub-left
     add-to
     loop-less
     loop-again
-    same-length-2
-    returns-2)
+    same-length
+    returns)

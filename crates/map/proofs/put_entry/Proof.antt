@@ -1,7 +1,4 @@
--- Two stores lay two words.
-use native.Mathlib.Omega.{arith}
-use lib.ListN.{length-set}
-use Rattle.blob.specs.Laid.{laid}
+-- The two words.
 use borrow.Author.Needs.{needs}
 use Rattle.map.proofs.put_entry.Statement.{statement}
 use Rattle.map.proofs.put_entry.Tie as tie
@@ -15,27 +12,17 @@ add-word c = search needs
 word-requires-2 : tie.Need-word-requires-2
 word-requires-2 c κs = search needs
 
-mul-area : tie.Need-mul-area
-mul-area c = search needs
+slice-aggregate-put : tie.Need-slice-aggregate-put
+slice-aggregate-put c = search needs
 
-slice-write-area : tie.Need-slice-write-area
-slice-write-area c = search needs
-
-add-area : tie.Need-add-area
-add-area c = search needs
-
-mul-area-2 : tie.Need-mul-area-2
-mul-area-2 c = search needs
-
-slice-write-area-2 : tie.Need-slice-write-area-2
-slice-write-area-2 c = simp length-set (omega arith)
+put-requires : tie.Need-put-requires
+put-requires c κs = search needs
 
 same-length : tie.Need-same-length
 same-length c = search needs
 
 returns : tie.Need-returns
-unfolding laid
-returns c = rw (c .word2 .ensures, c .before .word .ensures)
+returns c = rw (← c .before .before .before .before .before .before .word .ensures, ← c .before .before .before .before .before .word2 .ensures) (c .before .before .put .ensures)
 
 pub put-entry-spec : {M : Type 1} → statement M
 put-entry-spec =
@@ -44,10 +31,7 @@ put-entry-spec =
     word-requires
     add-word
     word-requires-2
-    mul-area
-    slice-write-area
-    add-area
-    mul-area-2
-    slice-write-area-2
+    slice-aggregate-put
+    put-requires
     same-length
     returns)

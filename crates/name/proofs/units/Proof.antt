@@ -2,7 +2,7 @@
 use Prim.Native.Nat.{_+_, _-_, _*_, _≤_}
 use mathlib.Core.Bool.{false}
 use mathlib.Core.Logic.{⊎-elim}
-use mathlib.Core.Path.{_≡_, ap, sym, _∙_}
+use mathlib.Core.Path.{_≡_, sym, _∙_}
 use native.Mathlib.Nat.{sub-self}
 use native.Mathlib.Omega.{arith}
 use borrow.Author.Needs.{needs}
@@ -11,32 +11,28 @@ use lib.Dec.{leb}
 use lib.ListN.{length}
 use Rattle.blob.specs.Reading.{run}
 use Rattle.blob.specs.Laws.{both}
-use Rattle.format.specs.declared.NameRead.the-variants as read
-use Rattle.format.specs.Name.{text, nameRead}
+use Rattle.format.specs.Name.{text}
 use Rattle.name.specs.Text.{text-none, text-zero, text-below, text-above, text-pair, text-unpaired, text-four, pairs-two}
 use Rattle.name.proofs.units.Statement.{statement}
 use Rattle.name.proofs.units.Tie as tie
 
 abbrev Inv-loop : tie.InvT-loop
-Inv-loop b field offset n start at₀ left₀ at left =
+Inv-loop b field offset n at₀ left₀ at left =
     (at + 2 * left ≤ length b)
     × (left ≤ n)
     × (run (text field offset n (offset + 4) 0 false) b ≡ run (text field offset left at (n - left) false) b)
 
 abbrev μ-loop : tie.MeasureT-loop
-μ-loop b field offset n start at₀ left₀ at left = left
+μ-loop b field offset n at₀ left₀ at left = left
 
 abbrev Inv-loop2 : tie.InvT-loop2
-Inv-loop2 b field offset n start at₀ left₀ at left = Inv-loop b field offset n start at₀ left₀ at left
+Inv-loop2 b field offset n at₀ left₀ at left = Inv-loop b field offset n at₀ left₀ at left
 
 abbrev μ-loop2 : tie.MeasureT-loop2
-μ-loop2 b field offset n start at₀ left₀ at left = left
+μ-loop2 b field offset n at₀ left₀ at left = left
 
-add-start : tie.Need-add-start Inv-loop μ-loop Inv-loop2 μ-loop2
-add-start c = search needs
-
-cast-at : tie.Need-cast-at Inv-loop μ-loop Inv-loop2 μ-loop2
-cast-at c = search needs
+add-at : tie.Need-add-at Inv-loop μ-loop Inv-loop2 μ-loop2
+add-at c = search needs
 
 loop-holds : tie.Need-loop-holds Inv-loop μ-loop Inv-loop2 μ-loop2
 loop-holds c = (search needs, search needs, rw sub-self)
@@ -44,8 +40,8 @@ loop-holds c = (search needs, search needs, rw sub-self)
 four-requires : tie.Need-four-requires Inv-loop μ-loop Inv-loop2 μ-loop2
 four-requires c κs = search needs
 
-add-at : tie.Need-add-at Inv-loop μ-loop Inv-loop2 μ-loop2
-add-at c = search needs
+add-at-2 : tie.Need-add-at-2 Inv-loop μ-loop Inv-loop2 μ-loop2
+add-at-2 c = search needs
 
 sub-left : tie.Need-sub-left Inv-loop μ-loop Inv-loop2 μ-loop2
 sub-left c = leb-true _ _ (both _ _ (sym (c .before .four .ensures) ∙ c .if1 .taken) .0)
@@ -69,19 +65,19 @@ loop2-holds c = c .before .before .loop .inv
 half-requires : tie.Need-half-requires Inv-loop μ-loop Inv-loop2 μ-loop2
 half-requires c κs = search needs
 
-sub-passed : tie.Need-sub-passed Inv-loop μ-loop Inv-loop2 μ-loop2
-sub-passed c = search needs
+sub-result : tie.Need-sub-result Inv-loop μ-loop Inv-loop2 μ-loop2
+sub-result c = search needs
 
 returns : tie.Need-returns Inv-loop μ-loop Inv-loop2 μ-loop2
 returns c =
     let h = c .before .before in
-    sym (ap nameRead (h .before .before .loop2 .inv .2 ∙ text-zero _ _ _ _ _ _ (h .before .loop2-test .taken) (sym (h .half .ensures) ∙ c .if3 .taken)))
+    h .before .before .loop2 .inv .2 ∙ text-zero _ _ _ _ _ _ _ (omega arith) (h .before .loop2-test .taken) (sym (h .half .ensures) ∙ c .if3 .taken)
 
 paired-requires : tie.Need-paired-requires Inv-loop μ-loop Inv-loop2 μ-loop2
 paired-requires c κs = search needs
 
-add-at-2 : tie.Need-add-at-2 Inv-loop μ-loop Inv-loop2 μ-loop2
-add-at-2 c = search needs
+add-at-3 : tie.Need-add-at-3 Inv-loop μ-loop Inv-loop2 μ-loop2
+add-at-3 c = search needs
 
 sub-left-2 : tie.Need-sub-left-2 Inv-loop μ-loop Inv-loop2 μ-loop2
 sub-left-2 c = pairs-two _ _ _ (sym (c .before .paired .ensures) ∙ c .if5 .taken)
@@ -99,19 +95,16 @@ loop2-again c =
           ∙ text-pair _ _ _ _ _ _ (h .before .loop2-test .taken) (omega arith) (omega arith) _ (omega arith) (sym (c .before .paired .ensures) ∙ c .if5 .taken),
     )
 
-not-utf16-requires : tie.Need-not-utf16-requires Inv-loop μ-loop Inv-loop2 μ-loop2
-not-utf16-requires c κs = search needs
-
 returns-2 : tie.Need-returns-2 Inv-loop μ-loop Inv-loop2 μ-loop2
 returns-2 c =
-    let p = c .before .before in
+    let p = c .before in
     let h = p .before .before .before in
-    ap read.Refused (c .not-utf16 .ensures)
-    ∙ sym (ap nameRead (h .before .before .loop2 .inv .2
-    ∙ text-unpaired _ _ _ _ _ _ (h .before .loop2-test .taken) (omega arith) (omega arith) (sym (p .paired .ensures) ∙ c .before .if5 .left)))
+    let l = h .before .before in
+    l .loop2 .inv .2
+    ∙ text-unpaired _ _ _ _ _ _ (h .before .loop2-test .taken) (omega arith) (omega arith) (l .before .before .before .before .before .args .n) 4294967295 (omega arith) (sym (p .paired .ensures) ∙ c .if5 .left)
 
-add-at-3 : tie.Need-add-at-3 Inv-loop μ-loop Inv-loop2 μ-loop2
-add-at-3 c = search needs
+add-at-4 : tie.Need-add-at-4 Inv-loop μ-loop Inv-loop2 μ-loop2
+add-at-4 c = search needs
 
 sub-left-3 : tie.Need-sub-left-3 Inv-loop μ-loop Inv-loop2 μ-loop2
 sub-left-3 c = search needs
@@ -131,7 +124,9 @@ loop2-again-2 c = (
 )
 
 returns-3 : tie.Need-returns-3 Inv-loop μ-loop Inv-loop2 μ-loop2
-returns-3 c = sym (ap nameRead (c .before .loop2 .inv .2 ∙ text-none _ _ _ _ _ _ _ (omega arith) (c .loop2-test .left)))
+returns-3 c =
+    let l = c .before in
+    l .loop2 .inv .2 ∙ text-none _ _ _ _ _ _ (l .before .before .before .before .before .args .n) (omega arith) (c .loop2-test .left)
 
 pub units-spec : {M : Type 1} → statement M
 units-spec =
@@ -141,26 +136,24 @@ units-spec =
     μ-loop
     Inv-loop2
     μ-loop2
-    add-start
-    cast-at
+    add-at
     loop-holds
     four-requires
-    add-at
+    add-at-2
     sub-left
     loop-less
     loop-again
     loop2-holds
     half-requires
-    sub-passed
+    sub-result
     returns
     paired-requires
-    add-at-2
+    add-at-3
     sub-left-2
     loop2-less
     loop2-again
-    not-utf16-requires
     returns-2
-    add-at-3
+    add-at-4
     sub-left-3
     loop2-less-2
     loop2-again-2
