@@ -28,7 +28,7 @@ pub data Wide (k : ℕ) : List Entry → Type 0 where
   empty : Wide k []
   more : {e : Entry} {es : List Entry} → length e ≡ k → Wide k es → Wide k (e ∷ es)
 
-wide-length : {k : ℕ} {es : List Entry} → Wide k es → length (flat (λ e. e) es) ≡ k * length es
+pub wide-length : {k : ℕ} {es : List Entry} → Wide k es → length (flat (λ e. e) es) ≡ k * length es
 unfolding flat
 wide-length {k} empty = sym (mul-zero k)
 wide-length (more h g) = simp (length-append, h, wide-length g, mul-suc) (omega arith)

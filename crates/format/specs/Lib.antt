@@ -39,3 +39,4 @@ pub mod Listed
 pub mod Needed
 pub mod Fits
 pub mod Enough
+pub mod Taken
