@@ -39,4 +39,6 @@ pub mod Listed
 pub mod Needed
 pub mod Fits
 pub mod Enough
+pub mod Known
 pub mod Taken
+pub mod Joins

@@ -52,7 +52,7 @@ filled-before n words at (r ∷ rs) [] ls h = refl
 filled-before n words at (r ∷ rs) (c ∷ cs) [] h = refl
 filled-before n words at (r ∷ rs) (c ∷ cs) (l ∷ ls) h = filled-before n _ (at + c * r .words) rs cs ls (omega arith) ∙ laid-before n words at _ h
 
-filled-length : (words : List ℕ) (at : ℕ) (rs : List Row) (cs : List ℕ) (ls : List (List Entry)) → length (filled words at rs cs ls) ≡ length words
+pub filled-length : (words : List ℕ) (at : ℕ) (rs : List Row) (cs : List ℕ) (ls : List (List Entry)) → length (filled words at rs cs ls) ≡ length words
 unfolding filled
 filled-length words at [] cs ls = refl
 filled-length words at (r ∷ rs) [] ls = refl
