@@ -1,21 +1,22 @@
 -- Each table that was read is of one of the eight kinds, and its records have their entries in that kind's list.
 use Prim.{Unit, tt}
-use Prim.Native.Nat.{ℕ, zero, suc, _≤_}
-use mathlib.Core.Path.{_≡_, refl, sym, _∙_, subst}
+use Prim.Native.Nat.{ℕ, zero, suc, _+_, _≤_, _<_}
+use mathlib.Core.Path.{_≡_, refl}
 use mathlib.Core.Bool.{Bool, true, false}
 use mathlib.Core.List.{List, [], _∷_, _++_}
 use native.Mathlib.Omega.{arith}
-use lib.ListN.{take}
+use lib.ListN.{length, take}
 use lib.Dec.{eqb}
 use Rattle.blob.specs.Reading.{Reading, got, done, choose, run, _>>=_, many, each}
 use Rattle.blob.specs.Laws.{same, then-done}
 use Rattle.blob.specs.Finds.{Finds, finds-got, finds-room, finds-bind, finds-next}
 use Rattle.blob.specs.Laid.{flat}
 use Rattle.format.specs.Table.{CHAN, EVNT, KEYW, LEVL, MAPS, OPCO, TASK, TTBL, kinds, kindList, headerAt}
-use Rattle.format.specs.Provider.{Rows, definitions, events, maps, templates, Table, Element, table, unknown, Provider, plain, eventsAt, tableAt, unknownAt, elementOf, elementAt, providerAt}
+use Rattle.format.specs.Provider.{Rows, definitions, maps, templates, Table, Element, table, unknown, Provider, plain, eventsAt, tableAt, unknownAt, elementOf, elementAt, providerAt}
 use Rattle.format.specs.Crim.{Crim, header, describedAt, providersOf, crim}
-use Rattle.format.specs.Lists.{or-else, lastOf, kept, listOf}
+use Rattle.format.specs.Lists.{or-else, lastOf, kept, Owned, ownedTables, listOf}
 use Rattle.format.specs.Definition.{step}
+use Rattle.format.specs.Listed.{owned}
 use Rattle.format.specs.Rested.{kind-cases}
 use Rattle.format.specs.declared.Header.{Header}
 use Rattle.format.specs.declared.CrimHeader.{CrimHeader}
@@ -27,7 +28,7 @@ abbrev pub All : {A : Type 0} → (A → Type 0) → List A → Type 0
 All P [] = Unit {0}
 All P (a ∷ vs) = P a × All P vs
 
-pub all-append : {A : Type 0} (P : A → Type 0) (xs ys : List A) → All P xs → All P ys → All P (xs ++ ys)
+all-append : {A : Type 0} (P : A → Type 0) (xs ys : List A) → All P xs → All P ys → All P (xs ++ ys)
 all-append P [] ys h g = g
 all-append P (x ∷ xs) ys h g = (h .0, all-append P xs ys (h .1) g)
 
@@ -141,3 +142,17 @@ known bytes c e =
     let h = then-done (run header bytes) _ c e in
     let ps = then-done (run (providersOf (h .0)) (take (h .0 .size) bytes)) _ c (h .2) in
     rw (← same _ _ (ps .2)) (all-kept (ps .0) (providers-known _ (h .0) .found (ps .0) (ps .1)))
+
+-- a table that names one of m providers
+abbrev pub Sound : ℕ → Owned → Type 0
+Sound m o = (o .provider < m) × Known (o .table)
+
+pub owned-known : (n m : ℕ) (ps : List Provider) → n + length ps ≤ m → All (λ p. All Known (kept (p .elements))) ps → All (Sound m) (ownedTables n ps)
+unfolding ownedTables
+owned-known n m [] h k = tt
+owned-known n m (p ∷ ps) h k =
+    all-append (Sound m) (owned n (kept (p .elements))) (ownedTables (suc n) ps) (go (kept (p .elements)) (k .0)) (owned-known (suc n) m ps (omega arith) (k .1))
+  where
+    go : (ts : List Table) → All Known ts → All (Sound m) (owned n ts)
+    go [] k = tt
+    go (t ∷ ts) k = ((omega arith, k .0), go ts (k .1))

@@ -18,8 +18,8 @@ use Rattle.format.specs.Area.{Row, rows, place}
 use Rattle.format.specs.Crim.{Crim, crim}
 use Rattle.format.specs.Lists.{Entry, lists}
 use Rattle.format.specs.Answer.{own, moderate, areas, lent-enough, with-room, reading, counted, filled, held}
-use Rattle.format.specs.Lookup.{entriesFrom, entriesOf, counts-fit}
-use Rattle.format.specs.Listed.{First, first, number}
+use Rattle.format.specs.Lookup.{entriesFrom, entriesOf}
+use Rattle.format.specs.Listed.{first, number}
 use Rattle.format.specs.Fits.{Wide, empty, more, wide-length, lists-wide}
 
 -- some words behind a place, out of the words up to their end
