@@ -1,74 +1,97 @@
--- What an answer says is what the definition finds: the code, field, place and numbers of each enum's cases are those of the outcome.
-use Prim.Native.Nat.{ℕ}
-use mathlib.Core.Path.{_≡_, refl}
-use mathlib.Core.List.{List}
+-- An answer's equation and what the answer tells are the same thing: an enum is the answer for an outcome exactly where it tells that
+-- outcome, and with it the code, field, place and numbers. Once for every enum, and a line for each.
+use Prim.Native.Nat.{ℕ, suc, _+_}
+use mathlib.Core.Path.{_≡_, refl, ap, sym, _∙_}
+use mathlib.Core.Logic.{_↔_}
+use mathlib.Core.Bool.{Bool, true, false, _&&_}
+use mathlib.Core.List.{List, [], _∷_}
+use lib.ListN.{take, drop}
+use lib.Dec.{leb, eqb}
 use Rattle.blob.specs.declared.Refusal.{Refusal}
-use Rattle.blob.specs.Reading.{Outcome, done, refused, answer, verdict}
-use Rattle.format.specs.Refuse.{fine}
-use Rattle.format.specs.Name.{nameRead}
-use Rattle.format.specs.Region.{endRead}
-use Rattle.format.specs.Table.{headerRead}
-use Rattle.format.specs.Definition.{definitionRead}
-use Rattle.format.specs.Template.{templateRead}
-use Rattle.format.specs.Map.{Mapped, mapRead}
-use Rattle.format.specs.Needs.{mapsRead, tableRead, elementRead}
-use Rattle.format.specs.Provider.{Table, Element, wevtRead, descriptorRead}
-use Rattle.format.specs.Crim.{crimRead}
+use Rattle.blob.specs.declared.Verdict.the-variants as verdicts
+use Rattle.blob.specs.Reading.{Outcome, done, refused, choose, then, answer}
+use Rattle.format.specs.Area.{TEMPLATES, of}
+use Rattle.format.specs.Entry.{TEMPLATE-OFFSET}
 use Rattle.format.specs.Lists.{Entry}
-use Rattle.format.specs.Lookup.{guidsFound}
-use Rattle.format.specs.Says.{said, verdictSays, nameSays, endSays, guidsSays, headerSays, definitionSays, tempSays, mapSays, entriesSays, crimSays, wevtSays, descriptorSays}
-use Rattle.format.specs.declared.Name.{Name}
-use Rattle.format.specs.declared.Header.{Header}
-use Rattle.format.specs.declared.Definition.{Definition}
-use Rattle.format.specs.declared.Template.{Template}
-use Rattle.format.specs.declared.CrimHeader.{CrimHeader}
-use Rattle.format.specs.declared.Wevt.{Wevt}
-use Rattle.format.specs.declared.Descriptor.{Descriptor}
+use Rattle.format.specs.Answer.{own, lent-enough}
+use Rattle.format.specs.Lookup.{entriesOf, wordOf, counts-fit, position, numbered, byOffset}
+use Rattle.format.specs.Grows.{choose-either}
+use Rattle.format.specs.Says.{verdictTold, nameTold, endTold, headerTold, definitionTold, tempTold, mapTold, entriesTold, crimTold, wevtTold, descriptorTold, guidsTold, templateTold}
+use Rattle.format.specs.declared as declared
 
--- once for every enum that is made by `answer`
-answer-says : {A R : Type 0} (says : R → Refusal) (f : A → R) (g : Refusal → R) → ((a : A) → says (f a) ≡ fine) → ((r : Refusal) → says (g r) ≡ r)
-    → (o : Outcome A) → says (answer f g o) ≡ said o
-answer-says says f g h k (done a) = h a
-answer-says says f g h k (refused r) = k r
+-- an enum of two cases, for a value and for a refusal, is what it tells
+pub record Told {A R : Type 0} (told : R → Outcome A) (f : A → R) (g : Refusal → R) : Type 0 where
+  pub value : (a : A) → told (f a) ≡ done a
+  pub refusal : (q : Refusal) → told (g q) ≡ refused q
+  pub back : (r : R) → r ≡ answer f g (told r)
 
-pub verdict-says : {A : Type 0} (o : Outcome A) → verdictSays (verdict o) ≡ said o
-verdict-says o = answer-says verdictSays _ _ (λ a. refl) (λ r. refl) o
+module _ {A R : Type 0} {told : R → Outcome A} {f : A → R} {g : Refusal → R} (t : Told told f g) where
+  pub exactly : (r : R) (o : Outcome A) → (r ≡ answer f g o) ↔ (told r ≡ o)
+  exactly r (done a) = (λ e. ap told e ∙ t .value a, λ e. t .back r ∙ ap (answer f g) e)
+  exactly r (refused q) = (λ e. ap told e ∙ t .refusal q, λ e. t .back r ∙ ap (answer f g) e)
 
-pub name-says : (o : Outcome Name) → nameSays (nameRead o) ≡ said o
-name-says o = answer-says nameSays _ _ (λ a. refl) (λ r. refl) o
+  -- where the enum keeps only something of what was found
+  pub exactly-of : {B : Type 0} (kept : B → A) (r : R) (o : Outcome B) → (r ≡ answer (λ b. f (kept b)) g o) ↔ (told r ≡ then o (λ b. done (kept b)))
+  unfolding then
+  exactly-of kept r (done b) = exactly r (done (kept b))
+  exactly-of kept r (refused q) = exactly r (refused q)
 
-pub end-says : {A : Type 0} (told : A → ℕ) (o : Outcome A) → endSays (endRead told o) ≡ said o
-end-says told o = answer-says endSays _ _ (λ a. refl) (λ r. refl) o
+pub record Enums : Type 0 where
+  pub verdict : Told verdictTold (λ a. verdicts.Fine) verdicts.Refused
+  pub name : Told nameTold declared.NameRead.the-variants.Name declared.NameRead.the-variants.Refused
+  pub end : Told endTold declared.EndRead.the-variants.End declared.EndRead.the-variants.Refused
+  pub header : Told headerTold declared.HeaderRead.the-variants.Header declared.HeaderRead.the-variants.Refused
+  pub definition : Told definitionTold declared.DefinitionRead.the-variants.Definition declared.DefinitionRead.the-variants.Refused
+  pub temp : Told tempTold declared.TemplateRead.the-variants.Template declared.TemplateRead.the-variants.Refused
+  pub map : Told mapTold declared.MapRead.the-variants.Map declared.MapRead.the-variants.Refused
+  pub entries : Told entriesTold declared.EntriesRead.the-variants.Entries declared.EntriesRead.the-variants.Refused
+  pub crim : Told crimTold declared.CrimRead.the-variants.Header declared.CrimRead.the-variants.Refused
+  pub wevt : Told wevtTold declared.WevtRead.the-variants.Wevt declared.WevtRead.the-variants.Refused
+  pub descriptor : Told descriptorTold declared.DescriptorRead.the-variants.Descriptor declared.DescriptorRead.the-variants.Refused
+  pub guids : Told guidsTold declared.GuidsFound.the-variants.Given declared.GuidsFound.the-variants.Refused
 
-pub guids-says : (o : Outcome (List Entry)) → guidsSays (guidsFound o) ≡ said o
-guids-says o = answer-says guidsSays _ _ (λ a. refl) (λ r. refl) o
+pub enums : Enums
+enums =
+    record {
+      verdict = record { value = λ a. refl; refusal = λ q. refl; back = λ r. elim r [ verdicts.Fine ↦ refl | verdicts.Refused q ↦ refl ] };
+      name = record { value = λ a. refl; refusal = λ q. refl; back = λ r. elim r [ declared.NameRead.the-variants.Name a ↦ refl | declared.NameRead.the-variants.Refused q ↦ refl ] };
+      end = record { value = λ a. refl; refusal = λ q. refl; back = λ r. elim r [ declared.EndRead.the-variants.End a ↦ refl | declared.EndRead.the-variants.Refused q ↦ refl ] };
+      header = record { value = λ a. refl; refusal = λ q. refl; back = λ r. elim r [ declared.HeaderRead.the-variants.Header a ↦ refl | declared.HeaderRead.the-variants.Refused q ↦ refl ] };
+      definition = record { value = λ a. refl; refusal = λ q. refl; back = λ r. elim r [ declared.DefinitionRead.the-variants.Definition a ↦ refl | declared.DefinitionRead.the-variants.Refused q ↦ refl ] };
+      temp = record { value = λ a. refl; refusal = λ q. refl; back = λ r. elim r [ declared.TemplateRead.the-variants.Template a ↦ refl | declared.TemplateRead.the-variants.Refused q ↦ refl ] };
+      map = record { value = λ a. refl; refusal = λ q. refl; back = λ r. elim r [ declared.MapRead.the-variants.Map a ↦ refl | declared.MapRead.the-variants.Refused q ↦ refl ] };
+      entries = record { value = λ a. refl; refusal = λ q. refl; back = λ r. elim r [ declared.EntriesRead.the-variants.Entries a ↦ refl | declared.EntriesRead.the-variants.Refused q ↦ refl ] };
+      crim = record { value = λ a. refl; refusal = λ q. refl; back = λ r. elim r [ declared.CrimRead.the-variants.Header a ↦ refl | declared.CrimRead.the-variants.Refused q ↦ refl ] };
+      wevt = record { value = λ a. refl; refusal = λ q. refl; back = λ r. elim r [ declared.WevtRead.the-variants.Wevt a ↦ refl | declared.WevtRead.the-variants.Refused q ↦ refl ] };
+      descriptor = record { value = λ a. refl; refusal = λ q. refl; back = λ r. elim r [ declared.DescriptorRead.the-variants.Descriptor a ↦ refl | declared.DescriptorRead.the-variants.Refused q ↦ refl ] };
+      guids = record { value = λ a. refl; refusal = λ q. refl; back = λ r. elim r [ declared.GuidsFound.the-variants.Given a ↦ refl | declared.GuidsFound.the-variants.Refused q ↦ refl ] };
+    }
 
-pub header-says : (o : Outcome Header) → headerSays (headerRead o) ≡ said o
-header-says o = answer-says headerSays _ _ (λ a. refl) (λ r. refl) o
+-- the lookup by offset: the number of one template or of none, 10 or 8
+number-told : (p : Entry → Bool) (n : ℕ) (ts : List Entry) → templateTold (numbered (position p n ts)) ≡ done (position p n ts)
+unfolding position
+number-told p n [] = refl
+number-told p n (t ∷ ts) = choose-either (p t) (λ ns. templateTold (numbered ns) ≡ done ns) refl (number-told p (suc n) ts)
 
-pub definition-says : (o : Outcome Definition) → definitionSays (definitionRead o) ≡ said o
-definition-says o = answer-says definitionSays _ _ (λ a. refl) (λ r. refl) o
+-- what the lookup by offset tells, by its two tests
+offset-by : (a b : Bool) (ns : List ℕ) → templateTold (numbered ns) ≡ done ns → templateTold (choose a (choose b (numbered ns) (declared.TemplateFound.the-variants.Refused (own 10))) (declared.TemplateFound.the-variants.Refused (own 8)))
+    ≡ choose a (choose b (done ns) (refused (own 10))) (refused (own 8))
+offset-by true true ns h = h
+offset-by true false ns h = refl
+offset-by false b ns h = refl
 
-pub temp-says : (o : Outcome Template) → tempSays (templateRead o) ≡ said o
-temp-says o = answer-says tempSays _ _ (λ a. refl) (λ r. refl) o
+pub offset-told : (words capacities counts : List ℕ) (first count offset : ℕ) → templateTold (byOffset words capacities counts first count offset)
+    ≡ choose (lent-enough capacities words)
+    (choose (counts-fit counts capacities && leb (first + count) (of TEMPLATES counts))
+    (done (position (λ t. eqb (wordOf TEMPLATE-OFFSET t) offset) first (take count (drop first (entriesOf words capacities counts TEMPLATES)))))
+    (refused (own 10)))
+    (refused (own 8))
+unfolding byOffset
+offset-told words capacities counts first count offset =
+    offset-by (lent-enough capacities words) (counts-fit counts capacities && leb (first + count) (of TEMPLATES counts)) _ (number-told (λ t. eqb (wordOf TEMPLATE-OFFSET t) offset) first (take count (drop first (entriesOf words capacities counts TEMPLATES))))
 
-pub map-says : (o : Outcome Mapped) → mapSays (mapRead o) ≡ said o
-map-says o = answer-says mapSays _ _ (λ a. refl) (λ r. refl) o
+found-back : (r : declared.TemplateFound.TemplateFound) → r ≡ answer numbered declared.TemplateFound.the-variants.Refused (templateTold r)
+found-back r = elim r [ declared.TemplateFound.the-variants.Number n ↦ refl | declared.TemplateFound.the-variants.Nothing ↦ refl | declared.TemplateFound.the-variants.Refused q ↦ refl ]
 
-pub maps-says : (o : Outcome (List Mapped)) → entriesSays (mapsRead o) ≡ said o
-maps-says o = answer-says entriesSays _ _ (λ a. refl) (λ r. refl) o
-
-pub table-says : (o : Outcome Table) → entriesSays (tableRead o) ≡ said o
-table-says o = answer-says entriesSays _ _ (λ a. refl) (λ r. refl) o
-
-pub element-says : (o : Outcome Element) → entriesSays (elementRead o) ≡ said o
-element-says o = answer-says entriesSays _ _ (λ a. refl) (λ r. refl) o
-
-pub crim-says : (o : Outcome CrimHeader) → crimSays (crimRead o) ≡ said o
-crim-says o = answer-says crimSays _ _ (λ a. refl) (λ r. refl) o
-
-pub wevt-says : (o : Outcome Wevt) → wevtSays (wevtRead o) ≡ said o
-wevt-says o = answer-says wevtSays _ _ (λ a. refl) (λ r. refl) o
-
-pub descriptor-says : (o : Outcome Descriptor) → descriptorSays (descriptorRead o) ≡ said o
-descriptor-says o = answer-says descriptorSays _ _ (λ a. refl) (λ r. refl) o
+pub found-exactly : (r found : declared.TemplateFound.TemplateFound) → (r ≡ found) ↔ (templateTold r ≡ templateTold found)
+found-exactly r found = (λ e. ap templateTold e, λ e. found-back r ∙ ap (answer numbered declared.TemplateFound.the-variants.Refused) e ∙ sym (found-back found))
