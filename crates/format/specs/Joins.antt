@@ -47,13 +47,14 @@ room-counts a b (r ∷ rs) (c ∷ cs) (l ∷ ls) e n m =
     let d = choose-done (leb (length l) c) (with-room rs cs ls a) _ b e in
     rw (d .0) (room-counts a b rs cs ls (d .1) (omega arith) (omega arith))
 
--- a table's range, where so many were written before, ends in what is written with it
+-- each table's list is that of a row
 list-row : (r : Rows) → place (listOf r) < length rows
 list-row (definitions ds) = omega arith
 list-row (events es) = omega arith
 list-row (maps ms) = omega arith
 list-row (templates ts) = omega arith
 
+-- a table's range, from what was written before, ends in what is written with it, and so in its list
 tables-fit : (counts before : List ℕ) (os : List Owned) → length before ≡ length rows
     → ((i : ℕ) → i < length rows → getD (behindAll TABLES before (map (λ o. o .table) os)) i 0 ≤ getD counts i 0)
     → All (Sound (of PROVIDERS counts)) os → tablesFit counts (tableEntries before os) ≡ true
@@ -64,7 +65,6 @@ tables-fit counts before (o ∷ os) n h k =
     let l = place (listOf r) in
     let s = getD-set-same before l (of (listOf r) before + rowCount r) 0 (omega (arith, list-row r)) in
     let g = behindAll-grows TABLES (after before r) (map (λ (o : Owned). o .table) os) l in
-    let e = ap (λ (m : ℕ). of m counts) (k .0 .1 .list) in
     let q : of (listOf r) before + rowCount r ≤ of (listOf r) counts = omega (arith, h l (list-row r)) in
     rw (← k .0 .1 .list, lt-ltb _ _ (k .0 .0), le-leb _ _ (k .0 .1 .low), le-leb _ _ (k .0 .1 .high), le-leb _ _ q)
     (tables-fit counts (after before r) os (length-set before l _ ∙ n) h (k .1))
