@@ -28,7 +28,7 @@ pub data Wide (k : ℕ) : List Entry → Type 0 where
   empty : Wide k []
   more : {e : Entry} {es : List Entry} → length e ≡ k → Wide k es → Wide k (e ∷ es)
 
-wide-length : {k : ℕ} {es : List Entry} → Wide k es → length (flat (λ e. e) es) ≡ k * length es
+pub wide-length : {k : ℕ} {es : List Entry} → Wide k es → length (flat (λ e. e) es) ≡ k * length es
 unfolding flat
 wide-length {k} empty = sym (mul-zero k)
 wide-length (more h g) = simp (length-append, h, wide-length g, mul-suc) (omega arith)
@@ -110,7 +110,7 @@ pub few-needed : (ps : List Provider) → Few (needsAll none ps) → needsAll no
 few-needed ps h = needed ps ∙ few-uncapped (counted (lists ps)) (rw (needed ps) at h)
 
 -- Where a walk has counted all providers' tables, no number is over that of its list.
-abbrev tables : List Provider → List Table
+abbrev pub tables : List Provider → List Table
 tables ps = flat (λ p. kept (p .elements)) ps
 
 of-all : {B : Type 0} (items : Rows → List B) (ps : List Provider) → flat (λ t. items (t .rows)) (tables ps) ≡ flat (of-tables items) ps
@@ -130,7 +130,7 @@ maps-behind a b c d e f g h i j [] = simp add-zero
 maps-behind a b c d e f g h i j (t ∷ ts) =
     maps-behind a b c d e f g _ i j ts ∙ rw (entries-count (mapsIn (t .rows)), length-append, add-assoc)
 
-tables-end : (ps : List Provider) → behindAll TABLES none (tables ps)
+pub tables-end : (ps : List Provider) → behindAll TABLES none (tables ps)
     ≡ 0 ∷ 0 ∷ 0 ∷ 0 ∷ length (flat (of-tables definitionsIn) ps) ∷ length (flat (of-tables eventsIn) ps) ∷ length (flat (of-tables mapsIn) ps) ∷ 0 ∷ length (flat (of-tables templatesIn) ps) ∷ 0 ∷ []
 tables-end ps = tables-behind none (tables ps) ∙ after-all 0 0 0 0 0 0 (tables ps) 0 0 0 0 ∙ simp (zero-add, of-all definitionsIn, of-all eventsIn, of-all mapsIn, of-all templatesIn)
 

@@ -127,7 +127,7 @@ behind-grows l before t i =
     let P : List ℕ → Type 0 = λ (ns : List ℕ). getD before i 0 ≤ getD ns i 0 in
     choose-either (eqb l TABLES) P (more-grows before _ _ i) (choose-either (eqb l MAPS) P (more-grows before _ _ i) (omega arith))
 
-behindAll-grows : (l : ℕ) (before : List ℕ) (ts : List Table) (i : ℕ) → getD before i 0 ≤ getD (behindAll l before ts) i 0
+pub behindAll-grows : (l : ℕ) (before : List ℕ) (ts : List Table) (i : ℕ) → getD before i 0 ≤ getD (behindAll l before ts) i 0
 unfolding behindAll
 behindAll-grows l before [] i = omega arith
 behindAll-grows l before (t ∷ ts) i = omega (arith, behind-grows l before t i, behindAll-grows l (behind l before t) ts i)

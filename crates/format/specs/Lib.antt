@@ -15,6 +15,7 @@ pub mod Crim
 pub mod Lists
 pub mod Answer
 pub mod Lookup
+pub mod Join
 pub mod Handle
 pub mod Listing
 pub mod Says
@@ -40,3 +41,7 @@ pub mod Listed
 pub mod Needed
 pub mod Fits
 pub mod Enough
+pub mod Known
+pub mod Taken
+pub mod Ranges
+pub mod Joins

@@ -18,7 +18,7 @@ use Rattle.format.specs.Parts.{start, walked, walkedAll, tablePart, tabl
 use Rattle.format.specs.Grows.{walkedAll-ahead, behindAll-length}
 use Rattle.format.specs.declared.Walk.{Walk}
 
-abbrev owned : ℕ → List Table → List Owned
+abbrev pub owned : ℕ → List Table → List Owned
 owned n ts = map (λ t. record { provider = n; table = t }) ts
 
 -- the tables with their providers' numbers have what the tables have

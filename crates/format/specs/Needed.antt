@@ -64,7 +64,7 @@ unfolding tableEntries
 tableEntries-length w [] = refl
 tableEntries-length w (o ∷ os) = ap suc (tableEntries-length _ os)
 
-mapList-length : (n : ℕ) (ms : List Mapped) → length (mapList n ms) ≡ length ms
+pub mapList-length : (n : ℕ) (ms : List Mapped) → length (mapList n ms) ≡ length ms
 unfolding mapList
 mapList-length n [] = refl
 mapList-length n (m ∷ ms) = ap suc (mapList-length _ ms)

@@ -1,74 +1,99 @@
--- What an answer says is what the definition finds: the code, field, place and numbers of each enum's cases are those of the outcome.
-use Prim.Native.Nat.{ℕ}
-use mathlib.Core.Path.{_≡_, refl}
-use mathlib.Core.List.{List}
+-- An answer's equation and what the answer tells are the same thing: an enum is the answer for an outcome exactly where it tells that
+-- outcome, and with it the code, field, place and numbers. Once for every enum, and a line for each.
+use Prim.{tt}
+use Prim.Native.Nat.{ℕ, suc, _+_}
+use mathlib.Core.Path.{_≡_, refl, ap, sym, _∙_}
+use mathlib.Core.Logic.{_↔_}
+use mathlib.Core.Bool.{Bool, true, false, _&&_}
+use mathlib.Core.List.{List, [], _∷_}
+use lib.ListN.{length, take, drop}
+use lib.Dec.{leb, eqb}
 use Rattle.blob.specs.declared.Refusal.{Refusal}
-use Rattle.blob.specs.Reading.{Outcome, done, refused, answer, verdict}
-use Rattle.format.specs.Refuse.{fine}
-use Rattle.format.specs.Name.{nameRead}
-use Rattle.format.specs.Region.{endRead}
-use Rattle.format.specs.Table.{headerRead}
-use Rattle.format.specs.Definition.{definitionRead}
-use Rattle.format.specs.Template.{templateRead}
-use Rattle.format.specs.Map.{Mapped, mapRead}
-use Rattle.format.specs.Needs.{mapsRead, tableRead, elementRead}
-use Rattle.format.specs.Provider.{Table, Element, wevtRead, descriptorRead}
-use Rattle.format.specs.Crim.{crimRead}
-use Rattle.format.specs.Lists.{Entry}
-use Rattle.format.specs.Lookup.{guidsFound}
-use Rattle.format.specs.Says.{said, verdictSays, nameSays, endSays, guidsSays, headerSays, definitionSays, tempSays, mapSays, entriesSays, crimSays, wevtSays, descriptorSays}
-use Rattle.format.specs.declared.Name.{Name}
-use Rattle.format.specs.declared.Header.{Header}
-use Rattle.format.specs.declared.Definition.{Definition}
-use Rattle.format.specs.declared.Template.{Template}
-use Rattle.format.specs.declared.CrimHeader.{CrimHeader}
-use Rattle.format.specs.declared.Wevt.{Wevt}
-use Rattle.format.specs.declared.Descriptor.{Descriptor}
+use Rattle.blob.specs.declared.Verdict.the-variants as verdicts
+use Rattle.blob.specs.Reading.{Outcome, done, refused, choose, then, answer, verdict}
+use Rattle.format.specs.Area.{TEMPLATES, of}
+use Rattle.format.specs.Answer.{own, lent-enough, capped}
+use Rattle.format.specs.Lookup.{entriesOf, wordOf, counts-fit, position, numbered, byOffset, guidsFound}
+use Rattle.format.specs.Says.{verdictTold, nameTold, endTold, headerTold, definitionTold, tempTold, mapTold, entriesTold, crimTold, wevtTold, descriptorTold, guidsTold, templateTold}
+use Rattle.format.specs as format
 
--- once for every enum that is made by `answer`
-answer-says : {A R : Type 0} (says : R → Refusal) (f : A → R) (g : Refusal → R) → ((a : A) → says (f a) ≡ fine) → ((r : Refusal) → says (g r) ≡ r)
-    → (o : Outcome A) → says (answer f g o) ≡ said o
-answer-says says f g h k (done a) = h a
-answer-says says f g h k (refused r) = k r
+-- an enum is the answer for an outcome exactly where it tells that outcome, or what it keeps of it
+abbrev pub Exactly : {A R : Type 0} → (R → Outcome A) → (Outcome A → R) → Type 0
+Exactly {A} {R} told read = (r : R) (o : Outcome A) → (r ≡ read o) ↔ (told r ≡ o)
 
-pub verdict-says : {A : Type 0} (o : Outcome A) → verdictSays (verdict o) ≡ said o
-verdict-says o = answer-says verdictSays _ _ (λ a. refl) (λ r. refl) o
+abbrev pub Keeps : {A B R : Type 0} → (R → Outcome A) → (B → A) → (Outcome B → R) → Type 0
+Keeps {A} {B} {R} told kept read = (r : R) (o : Outcome B) → (r ≡ read o) ↔ (told r ≡ then o (λ b. done (kept b)))
 
-pub name-says : (o : Outcome Name) → nameSays (nameRead o) ≡ said o
-name-says o = answer-says nameSays _ _ (λ a. refl) (λ r. refl) o
+-- once for every enum of two cases, f for a value and g for a refusal
+module _ {A R : Type 0} (told : R → Outcome A) where
+  pub exactly : {f : A → R} {g : Refusal → R} → ((a : A) → told (f a) ≡ done a) → ((q : Refusal) → told (g q) ≡ refused q) → ((r : R) → r ≡ answer f g (told r)) → Exactly told (answer f g)
+  exactly {f} {g} value refusal back r (done a) = (λ e. ap told e ∙ value a, λ e. back r ∙ ap (answer f g) e)
+  exactly {f} {g} value refusal back r (refused q) = (λ e. ap told e ∙ refusal q, λ e. back r ∙ ap (answer f g) e)
 
-pub end-says : {A : Type 0} (told : A → ℕ) (o : Outcome A) → endSays (endRead told o) ≡ said o
-end-says told o = answer-says endSays _ _ (λ a. refl) (λ r. refl) o
+  pub keeps : {B : Type 0} (kept : B → A) (f : A → R) {g : Refusal → R} → Exactly told (answer f g) → Keeps told kept (answer (λ b. f (kept b)) g)
+  unfolding then
+  keeps kept f h r (done b) = h r (done (kept b))
+  keeps kept f h r (refused q) = h r (refused q)
 
-pub guids-says : (o : Outcome (List Entry)) → guidsSays (guidsFound o) ≡ said o
-guids-says o = answer-says guidsSays _ _ (λ a. refl) (λ r. refl) o
+pub record Enums : Type 1 where
+  pub verdict : {A : Type 0} → Keeps verdictTold (λ (a : A). tt) verdict
+  pub name : Exactly nameTold format.Name.nameRead
+  pub header : Exactly headerTold format.Table.headerRead
+  pub definition : Exactly definitionTold format.Definition.definitionRead
+  pub temp : Exactly tempTold format.Template.templateRead
+  pub crim : Exactly crimTold format.Crim.crimRead
+  pub wevt : Exactly wevtTold format.Provider.wevtRead
+  pub descriptor : Exactly descriptorTold format.Provider.descriptorRead
+  pub end : {A : Type 0} (told : A → ℕ) → Keeps endTold told (format.Region.endRead told)
+  pub map : Keeps mapTold (λ m. m .map) format.Map.mapRead
+  pub maps : Keeps entriesTold (λ ms. capped (format.Needs.entryCount ms)) format.Needs.mapsRead
+  pub table : Keeps entriesTold (λ t. capped (format.Needs.entryCount (format.Lists.mapsIn (t .rows)))) format.Needs.tableRead
+  pub element : Keeps entriesTold (λ e. capped (format.Needs.entriesOf e)) format.Needs.elementRead
+  pub guids : Keeps guidsTold (λ gs. length gs) guidsFound
 
-pub header-says : (o : Outcome Header) → headerSays (headerRead o) ≡ said o
-header-says o = answer-says headerSays _ _ (λ a. refl) (λ r. refl) o
+pub enums : Enums
+enums =
+    record {
+      verdict = keeps verdictTold (λ a. tt) (λ u. verdicts.Fine) (exactly verdictTold (λ a. refl) (λ q. refl) (λ r. elim r [ verdicts.Fine ↦ refl | verdicts.Refused q ↦ refl ]));
+      name = exactly nameTold (λ a. refl) (λ q. refl) (λ r. elim r [ format.declared.NameRead.the-variants.Name a ↦ refl | format.declared.NameRead.the-variants.Refused q ↦ refl ]);
+      header = exactly headerTold (λ a. refl) (λ q. refl) (λ r. elim r [ format.declared.HeaderRead.the-variants.Header a ↦ refl | format.declared.HeaderRead.the-variants.Refused q ↦ refl ]);
+      definition = exactly definitionTold (λ a. refl) (λ q. refl) (λ r. elim r [ format.declared.DefinitionRead.the-variants.Definition a ↦ refl | format.declared.DefinitionRead.the-variants.Refused q ↦ refl ]);
+      temp = exactly tempTold (λ a. refl) (λ q. refl) (λ r. elim r [ format.declared.TemplateRead.the-variants.Template a ↦ refl | format.declared.TemplateRead.the-variants.Refused q ↦ refl ]);
+      crim = exactly crimTold (λ a. refl) (λ q. refl) (λ r. elim r [ format.declared.CrimRead.the-variants.Header a ↦ refl | format.declared.CrimRead.the-variants.Refused q ↦ refl ]);
+      wevt = exactly wevtTold (λ a. refl) (λ q. refl) (λ r. elim r [ format.declared.WevtRead.the-variants.Wevt a ↦ refl | format.declared.WevtRead.the-variants.Refused q ↦ refl ]);
+      descriptor = exactly descriptorTold (λ a. refl) (λ q. refl) (λ r. elim r [ format.declared.DescriptorRead.the-variants.Descriptor a ↦ refl | format.declared.DescriptorRead.the-variants.Refused q ↦ refl ]);
+      end = λ told. keeps endTold told format.declared.EndRead.the-variants.End (exactly endTold (λ a. refl) (λ q. refl) (λ r. elim r [ format.declared.EndRead.the-variants.End a ↦ refl | format.declared.EndRead.the-variants.Refused q ↦ refl ]));
+      map = keeps mapTold (λ m. m .map) format.declared.MapRead.the-variants.Map (exactly mapTold (λ a. refl) (λ q. refl) (λ r. elim r [ format.declared.MapRead.the-variants.Map a ↦ refl | format.declared.MapRead.the-variants.Refused q ↦ refl ]));
+      maps = keeps entriesTold (λ ms. capped (format.Needs.entryCount ms)) format.declared.EntriesRead.the-variants.Entries (exactly entriesTold (λ a. refl) (λ q. refl) (λ r. elim r [ format.declared.EntriesRead.the-variants.Entries a ↦ refl | format.declared.EntriesRead.the-variants.Refused q ↦ refl ]));
+      table = keeps entriesTold (λ t. capped (format.Needs.entryCount (format.Lists.mapsIn (t .rows)))) format.declared.EntriesRead.the-variants.Entries (exactly entriesTold (λ a. refl) (λ q. refl) (λ r. elim r [ format.declared.EntriesRead.the-variants.Entries a ↦ refl | format.declared.EntriesRead.the-variants.Refused q ↦ refl ]));
+      element = keeps entriesTold (λ e. capped (format.Needs.entriesOf e)) format.declared.EntriesRead.the-variants.Entries (exactly entriesTold (λ a. refl) (λ q. refl) (λ r. elim r [ format.declared.EntriesRead.the-variants.Entries a ↦ refl | format.declared.EntriesRead.the-variants.Refused q ↦ refl ]));
+      guids = keeps guidsTold (λ gs. length gs) format.declared.GuidsFound.the-variants.Given (exactly guidsTold (λ a. refl) (λ q. refl) (λ r. elim r [ format.declared.GuidsFound.the-variants.Given a ↦ refl | format.declared.GuidsFound.the-variants.Refused q ↦ refl ]));
+    }
 
-pub definition-says : (o : Outcome Definition) → definitionSays (definitionRead o) ≡ said o
-definition-says o = answer-says definitionSays _ _ (λ a. refl) (λ r. refl) o
+-- the lookup by offset: the number of one template or of none, 10 or 8
+number-told : (p : format.Lists.Entry → Bool) (n : ℕ) (ts : List format.Lists.Entry) → templateTold (numbered (position p n ts)) ≡ done (position p n ts)
+unfolding position
+number-told p n [] = refl
+number-told p n (t ∷ ts) = format.Grows.choose-either (p t) (λ ns. templateTold (numbered ns) ≡ done ns) refl (number-told p (suc n) ts)
 
-pub temp-says : (o : Outcome Template) → tempSays (templateRead o) ≡ said o
-temp-says o = answer-says tempSays _ _ (λ a. refl) (λ r. refl) o
+offset-by : (a b : Bool) (ns : List ℕ) → templateTold (numbered ns) ≡ done ns → templateTold (choose a (choose b (numbered ns) (format.declared.TemplateFound.the-variants.Refused (own 10))) (format.declared.TemplateFound.the-variants.Refused (own 8)))
+    ≡ choose a (choose b (done ns) (refused (own 10))) (refused (own 8))
+offset-by true true ns h = h
+offset-by true false ns h = refl
+offset-by false b ns h = refl
 
-pub map-says : (o : Outcome Mapped) → mapSays (mapRead o) ≡ said o
-map-says o = answer-says mapSays _ _ (λ a. refl) (λ r. refl) o
+pub offset-told : (words capacities counts : List ℕ) (first count offset : ℕ) → templateTold (byOffset words capacities counts first count offset)
+    ≡ choose (lent-enough capacities words)
+    (choose (counts-fit counts capacities && leb (first + count) (of TEMPLATES counts))
+    (done (position (λ t. eqb (wordOf format.Entry.TEMPLATE-OFFSET t) offset) first (take count (drop first (entriesOf words capacities counts TEMPLATES)))))
+    (refused (own 10)))
+    (refused (own 8))
+unfolding byOffset
+offset-told words capacities counts first count offset =
+    offset-by (lent-enough capacities words) (counts-fit counts capacities && leb (first + count) (of TEMPLATES counts)) _ (number-told (λ t. eqb (wordOf format.Entry.TEMPLATE-OFFSET t) offset) first (take count (drop first (entriesOf words capacities counts TEMPLATES))))
 
-pub maps-says : (o : Outcome (List Mapped)) → entriesSays (mapsRead o) ≡ said o
-maps-says o = answer-says entriesSays _ _ (λ a. refl) (λ r. refl) o
+found-back : (r : format.declared.TemplateFound.TemplateFound) → r ≡ answer numbered format.declared.TemplateFound.the-variants.Refused (templateTold r)
+found-back r = elim r [ format.declared.TemplateFound.the-variants.Number n ↦ refl | format.declared.TemplateFound.the-variants.Nothing ↦ refl | format.declared.TemplateFound.the-variants.Refused q ↦ refl ]
 
-pub table-says : (o : Outcome Table) → entriesSays (tableRead o) ≡ said o
-table-says o = answer-says entriesSays _ _ (λ a. refl) (λ r. refl) o
-
-pub element-says : (o : Outcome Element) → entriesSays (elementRead o) ≡ said o
-element-says o = answer-says entriesSays _ _ (λ a. refl) (λ r. refl) o
-
-pub crim-says : (o : Outcome CrimHeader) → crimSays (crimRead o) ≡ said o
-crim-says o = answer-says crimSays _ _ (λ a. refl) (λ r. refl) o
-
-pub wevt-says : (o : Outcome Wevt) → wevtSays (wevtRead o) ≡ said o
-wevt-says o = answer-says wevtSays _ _ (λ a. refl) (λ r. refl) o
-
-pub descriptor-says : (o : Outcome Descriptor) → descriptorSays (descriptorRead o) ≡ said o
-descriptor-says o = answer-says descriptorSays _ _ (λ a. refl) (λ r. refl) o
+pub found-exactly : (r found : format.declared.TemplateFound.TemplateFound) → (r ≡ found) ↔ (templateTold r ≡ templateTold found)
+found-exactly r found = (λ e. ap templateTold e, λ e. found-back r ∙ ap (answer numbered format.declared.TemplateFound.the-variants.Refused) e ∙ sym (found-back found))

@@ -1,90 +1,64 @@
--- For each enum that a function answers, the code, field, place and two numbers that each of its cases stands for. (`itemsSays` of
--- Template is the one for `Items`.) "Where an answer is an enum, a definition gives .. number and values for each of the enum's cases."
--- (forms)
+-- For each enum that a function answers, what each of its cases tells, as an outcome: a value or a refusal, and with it the code, field,
+-- place and two numbers (`said`). (`itemsSays` of Template is the one for `Items`.) "Where an answer is an enum, a definition gives ..
+-- number and values for each of the enum's cases." (forms)
+use Prim.{Unit, tt}
+use Prim.Native.Nat.{ℕ}
+use mathlib.Core.List.{List, [], _∷_}
 use Rattle.blob.specs.declared.Refusal.{Refusal}
 use Rattle.blob.specs.declared.Verdict.{Verdict}
 use Rattle.blob.specs.declared.Verdict.the-variants as verdicts
 use Rattle.blob.specs.Reading.{Outcome, done, refused}
 use Rattle.format.specs.Refuse.{fine}
-use Rattle.format.specs.declared.Name.{Name}
-use Rattle.format.specs.declared.NameRead.{NameRead}
-use Rattle.format.specs.declared.NameRead.the-variants as names
-use Rattle.format.specs.declared.EndRead.{EndRead}
-use Rattle.format.specs.declared.EndRead.the-variants as ends
-use Rattle.format.specs.declared.HeaderRead.{HeaderRead}
-use Rattle.format.specs.declared.HeaderRead.the-variants as headers
-use Rattle.format.specs.declared.DefinitionRead.{DefinitionRead}
-use Rattle.format.specs.declared.DefinitionRead.the-variants as definitions
-use Rattle.format.specs.declared.TemplateRead.{TemplateRead}
-use Rattle.format.specs.declared.TemplateRead.the-variants as temps
-use Rattle.format.specs.declared.MapRead.{MapRead}
-use Rattle.format.specs.declared.MapRead.the-variants as maps
-use Rattle.format.specs.declared.EntriesRead.{EntriesRead}
-use Rattle.format.specs.declared.EntriesRead.the-variants as entries
-use Rattle.format.specs.declared.WevtRead.{WevtRead}
-use Rattle.format.specs.declared.WevtRead.the-variants as wevts
-use Rattle.format.specs.declared.DescriptorRead.{DescriptorRead}
-use Rattle.format.specs.declared.DescriptorRead.the-variants as descriptors
-use Rattle.format.specs.declared.CrimRead.{CrimRead}
-use Rattle.format.specs.declared.CrimRead.the-variants as crims
-use Rattle.format.specs.declared.TemplateFound.{TemplateFound}
-use Rattle.format.specs.declared.TemplateFound.the-variants as templates
-use Rattle.format.specs.declared.GuidsFound.{GuidsFound}
-use Rattle.format.specs.declared.GuidsFound.the-variants as guids
+use Rattle.format.specs.declared as declared
 
 abbrev pub said : {A : Type 0} → Outcome A → Refusal
 said (done a) = fine
 said (refused r) = r
 
-abbrev pub verdictSays : Verdict → Refusal
-verdictSays verdicts.Fine = fine
-verdictSays (verdicts.Refused r) = r
+abbrev pub verdictTold : Verdict → Outcome (Unit {0})
+verdictTold r = elim r [ verdicts.Fine ↦ done tt | verdicts.Refused q ↦ refused q ]
 
-abbrev pub nameSays : NameRead → Refusal
-nameSays (names.Name n) = fine
-nameSays (names.Refused r) = r
+abbrev pub nameTold : declared.NameRead.NameRead → Outcome declared.Name.Name
+nameTold r = elim r [ declared.NameRead.the-variants.Name n ↦ done n | declared.NameRead.the-variants.Refused q ↦ refused q ]
 
-abbrev pub endSays : EndRead → Refusal
-endSays (ends.End e) = fine
-endSays (ends.Refused r) = r
+abbrev pub endTold : declared.EndRead.EndRead → Outcome ℕ
+endTold r = elim r [ declared.EndRead.the-variants.End e ↦ done e | declared.EndRead.the-variants.Refused q ↦ refused q ]
 
-abbrev pub templateSays : TemplateFound → Refusal
-templateSays (templates.Number i) = fine
-templateSays templates.Nothing = fine
-templateSays (templates.Refused r) = r
+abbrev pub headerTold : declared.HeaderRead.HeaderRead → Outcome declared.Header.Header
+headerTold r = elim r [ declared.HeaderRead.the-variants.Header h ↦ done h | declared.HeaderRead.the-variants.Refused q ↦ refused q ]
 
-abbrev pub guidsSays : GuidsFound → Refusal
-guidsSays (guids.Given n) = fine
-guidsSays (guids.Refused r) = r
+abbrev pub definitionTold : declared.DefinitionRead.DefinitionRead → Outcome declared.Definition.Definition
+definitionTold r = elim r [ declared.DefinitionRead.the-variants.Definition d ↦ done d | declared.DefinitionRead.the-variants.Refused q ↦ refused q ]
 
-abbrev pub headerSays : HeaderRead → Refusal
-headerSays (headers.Header h) = fine
-headerSays (headers.Refused r) = r
+abbrev pub tempTold : declared.TemplateRead.TemplateRead → Outcome declared.Template.Template
+tempTold r = elim r [ declared.TemplateRead.the-variants.Template t ↦ done t | declared.TemplateRead.the-variants.Refused q ↦ refused q ]
 
-abbrev pub definitionSays : DefinitionRead → Refusal
-definitionSays (definitions.Definition d) = fine
-definitionSays (definitions.Refused r) = r
+abbrev pub mapTold : declared.MapRead.MapRead → Outcome declared.Map.Map
+mapTold r = elim r [ declared.MapRead.the-variants.Map m ↦ done m | declared.MapRead.the-variants.Refused q ↦ refused q ]
 
-abbrev pub tempSays : TemplateRead → Refusal
-tempSays (temps.Template t) = fine
-tempSays (temps.Refused r) = r
+-- how many map entries
+abbrev pub entriesTold : declared.EntriesRead.EntriesRead → Outcome ℕ
+entriesTold r = elim r [ declared.EntriesRead.the-variants.Entries n ↦ done n | declared.EntriesRead.the-variants.Refused q ↦ refused q ]
 
-abbrev pub mapSays : MapRead → Refusal
-mapSays (maps.Map m) = fine
-mapSays (maps.Refused r) = r
+abbrev pub crimTold : declared.CrimRead.CrimRead → Outcome declared.CrimHeader.CrimHeader
+crimTold r = elim r [ declared.CrimRead.the-variants.Header h ↦ done h | declared.CrimRead.the-variants.Refused q ↦ refused q ]
 
-abbrev pub entriesSays : EntriesRead → Refusal
-entriesSays (entries.Entries n) = fine
-entriesSays (entries.Refused r) = r
+abbrev pub wevtTold : declared.WevtRead.WevtRead → Outcome declared.Wevt.Wevt
+wevtTold r = elim r [ declared.WevtRead.the-variants.Wevt w ↦ done w | declared.WevtRead.the-variants.Refused q ↦ refused q ]
 
-abbrev pub crimSays : CrimRead → Refusal
-crimSays (crims.Header h) = fine
-crimSays (crims.Refused r) = r
+abbrev pub descriptorTold : declared.DescriptorRead.DescriptorRead → Outcome declared.Descriptor.Descriptor
+descriptorTold r = elim r [ declared.DescriptorRead.the-variants.Descriptor d ↦ done d | declared.DescriptorRead.the-variants.Refused q ↦ refused q ]
 
-abbrev pub wevtSays : WevtRead → Refusal
-wevtSays (wevts.Wevt w) = fine
-wevtSays (wevts.Refused r) = r
+-- how many GUIDs
+abbrev pub guidsTold : declared.GuidsFound.GuidsFound → Outcome ℕ
+guidsTold r = elim r [ declared.GuidsFound.the-variants.Given n ↦ done n | declared.GuidsFound.the-variants.Refused q ↦ refused q ]
 
-abbrev pub descriptorSays : DescriptorRead → Refusal
-descriptorSays (descriptors.Descriptor d) = fine
-descriptorSays (descriptors.Refused r) = r
+abbrev pub guidsSays : declared.GuidsFound.GuidsFound → Refusal
+guidsSays f = said (guidsTold f)
+
+-- the number of a template; none or one
+abbrev pub templateTold : declared.TemplateFound.TemplateFound → Outcome (List ℕ)
+templateTold r = elim r [ declared.TemplateFound.the-variants.Number i ↦ done (i ∷ []) | declared.TemplateFound.the-variants.Nothing ↦ done [] | declared.TemplateFound.the-variants.Refused q ↦ refused q ]
+
+abbrev pub templateSays : declared.TemplateFound.TemplateFound → Refusal
+templateSays f = said (templateTold f)

@@ -1,0 +1,212 @@
+-- A reading's own lists always join: the lookups' tests find no fault in them, and the lookup by key gives the join of what was read.
+use Prim.{tt}
+use Prim.Native.Nat.{ℕ, suc, _+_, _/_, _≤_, _<_}
+use mathlib.Core.Path.{_≡_, refl, ap, ap₂, sym, _∙_, subst}
+use mathlib.Core.Bool.{Bool, true, false}
+use mathlib.Core.List.{List, [], _∷_, _++_, map, map-append, append-assoc}
+use native.Mathlib.Numerals.{add-one}
+use native.Mathlib.Omega.{arith}
+use lib.ListN.{length, getD, take, drop, length-set, length-map, length-append}
+use lib.Seq.{getD-set-same}
+use lib.Dec.{leb, eqb}
+use borrow.Author.Tests.{lt-ltb, le-leb}
+use Rattle.blob.specs.Reading.{done, refused, choose}
+use Rattle.blob.specs.Laws.{choose-done}
+use Rattle.blob.specs.Laid.{flat, flat-map}
+use Rattle.format.specs.Area.{PROVIDERS, TABLES, EVENTS, TEMPLATES, Row, rows, place, none, of}
+use Rattle.format.specs.Entry.{GUID, EVENT-TEMPLATE, TEMPLATE-OFFSET, TEMPLATE-GUID}
+use Rattle.format.specs.Table.{EVNT, TTBL}
+use Rattle.format.specs.Provider.{Rows, definitions, events, maps, templates, Table, Provider}
+use Rattle.format.specs.Crim.{Crim}
+use Rattle.format.specs.Lists.{Entry, kept, Owned, ownedTables, listOf, rowCount, after, tableEntries, guidWords, providerWords, eventWords, templateWords, eventsIn, templatesIn, lists}
+use Rattle.format.specs.Answer.{own, too-small, lent-enough, with-room, reading, counted, held}
+use Rattle.format.specs.Lookup.{entriesOf, wordOf, counts-fit, select, position, numbered, byOffset, alike, once, tablesFit, ownedBy, keyed, guidAtOffset, guidsOf, byKey}
+use Rattle.format.specs.Join.{those, the-first, eventsOf, templatesOf, asked, templateGuid, join}
+use Rattle.format.specs.Parts.{behindAll}
+use Rattle.format.specs.Grows.{behindAll-grows}
+use Rattle.format.specs.Listed.{owned, lists-itemized, first}
+use Rattle.format.specs.Needed.{mapList-length}
+use Rattle.format.specs.Fits.{tables, tables-end}
+use Rattle.format.specs.Known.{All, Known, Sound, owned-known, known}
+use Rattle.format.specs.Taken.{read, filled-length, taken}
+use Rattle.format.specs.Ranges.{events-range, templates-range}
+use Rattle.format.specs.declared.Key.{Key}
+use Rattle.format.specs.declared.Template.{Template}
+use Rattle.format.specs.declared.TemplateFound.the-variants as template
+
+-- lists that have room have no count over its capacity
+room-counts : {A : Type 0} (a b : A) (rs : List Row) (cs : List ℕ) (ls : List (List Entry)) → with-room rs cs ls a ≡ done b → length cs ≡ length rs → length ls ≡ length rs
+    → counts-fit (counted ls) cs ≡ true
+unfolding with-room counts-fit
+room-counts a b [] [] [] e n m = refl
+room-counts a b [] [] (l ∷ ls) e n m = absurd (omega arith)
+room-counts a b [] (c ∷ cs) ls e n m = absurd (omega arith)
+room-counts a b (r ∷ rs) [] ls e n m = absurd (omega arith)
+room-counts a b (r ∷ rs) (c ∷ cs) [] e n m = absurd (omega arith)
+room-counts a b (r ∷ rs) (c ∷ cs) (l ∷ ls) e n m =
+    let d = choose-done (leb (length l) c) (with-room rs cs ls a) _ b e in
+    rw (d .0) (room-counts a b rs cs ls (d .1) (omega arith) (omega arith))
+
+-- each table's list is that of a row
+list-row : (r : Rows) → place (listOf r) < length rows
+list-row (definitions ds) = omega arith
+list-row (events es) = omega arith
+list-row (maps ms) = omega arith
+list-row (templates ts) = omega arith
+
+-- a table's range, from what was written before, ends in what is written with it, and so in its list
+tables-fit : (counts before : List ℕ) (os : List Owned) → length before ≡ length rows
+    → ((i : ℕ) → i < length rows → getD (behindAll TABLES before (map (λ o. o .table) os)) i 0 ≤ getD counts i 0)
+    → All (Sound (of PROVIDERS counts)) os → tablesFit counts (tableEntries before os) ≡ true
+unfolding tablesFit tableEntries behindAll
+tables-fit counts before [] n h k = refl
+tables-fit counts before (o ∷ os) n h k =
+    let r = o .table .rows in
+    let l = place (listOf r) in
+    let s = getD-set-same before l (of (listOf r) before + rowCount r) 0 (omega (arith, list-row r)) in
+    let g = behindAll-grows TABLES (after before r) (map (λ (o : Owned). o .table) os) l in
+    let q : of (listOf r) before + rowCount r ≤ of (listOf r) counts = omega (arith, h l (list-row r)) in
+    rw (← k .0 .1 .list, lt-ltb _ _ (k .0 .0), le-leb _ _ (k .0 .1 .low), le-leb _ _ (k .0 .1 .high), le-leb _ _ q)
+    (tables-fit counts (after before r) os (length-set before l _ ∙ n) h (k .1))
+
+-- the tables with their providers' numbers
+owned-tables : (n : ℕ) (ps : List Provider) → map (λ o. o .table) (ownedTables n ps) ≡ tables ps
+unfolding ownedTables flat
+owned-tables n [] = refl
+owned-tables n (p ∷ ps) = map-append (λ o. o .table) (owned n (kept (p .elements))) (ownedTables (suc n) ps) ∙ ap₂ (λ (a b : List Table). a ++ b) (same-tables (kept (p .elements))) (owned-tables (suc n) ps)
+  where
+    same-tables : (ts : List Table) → map (λ o. o .table) (owned n ts) ≡ ts
+    same-tables [] = refl
+    same-tables (t ∷ ts) = ap (λ (l : List Table). t ∷ l) (same-tables ts)
+
+-- no list has fewer entries than its tables
+tables-most : (ps : List Provider) (i : ℕ) → i < length rows → getD (behindAll TABLES none (tables ps)) i 0 ≤ getD (counted (lists ps)) i 0
+tables-most ps =
+    rw (tables-end ps, lists-itemized ps) (first _ (length rows) (
+      omega arith,
+      (
+        omega arith,
+        (
+          omega arith,
+          (
+            omega arith,
+            (
+              rw length-map (omega arith),
+              (
+                rw length-map (omega arith),
+                (rw mapList-length (omega arith), (omega arith, (rw length-map (omega arith), (omega arith, tt)))),
+              ),
+            ),
+          ),
+        ),
+      ),
+    ))
+
+-- Of entries that are the words of some values, those that a test picks are the words of the values that it picks.
+module _ {A : Type 0} (words : A → Entry) (p : Entry → Bool) where
+  select-words : (vs : List A) → select p (map words vs) ≡ map words (those (λ a. p (words a)) vs)
+  unfolding select those
+  select-words [] = refl
+  select-words (a ∷ vs) = go (p (words a)) (select-words vs)
+    where
+      go : (t : Bool) → select p (map words vs) ≡ map words (those (λ a. p (words a)) vs)
+          → choose t (words a ∷ select p (map words vs)) (select p (map words vs)) ≡ map words (choose t (a ∷ those (λ a. p (words a)) vs) (those (λ a. p (words a)) vs))
+      go true ih = ap (λ (es : List Entry). words a ∷ es) ih
+      go false ih = ih
+
+  -- the first of them, and something of it
+  first-words : {B : Type 0} (f : Entry → B) (vs : List A) → map f (take 1 (select p (map words vs))) ≡ map (λ a. f (words a)) (the-first (λ a. p (words a)) vs)
+  first-words {B} f vs = ap (λ (es : List Entry). map f (take 1 es)) (select-words vs) ∙ go (those (λ a. p (words a)) vs)
+    where
+      go : (xs : List A) → map f (take 1 (map words xs)) ≡ map (λ a. f (words a)) (take 1 xs)
+      go [] = refl
+      go (x ∷ xs) = refl
+
+  -- and its number among all of them
+  first-position : {B : Type 0} (F : ℕ → List B) (G : A → List B) (all : List A) → ((qs : List A) (x : A) (rs : List A) → all ≡ qs ++ x ∷ rs → F (length qs) ≡ G x)
+      → (qs rs : List A) → all ≡ qs ++ rs → flat F (position p (length qs) (map words rs)) ≡ flat G (the-first (λ a. p (words a)) rs)
+  unfolding position those flat
+  first-position F G all h qs [] e = refl
+  first-position {B} F G all h qs (x ∷ rs) e =
+      go (p (words x)) (first-position F G all h (qs ++ x ∷ []) rs (e ∙ sym (append-assoc qs (x ∷ []) rs)))
+    where
+      go : (t : Bool) → flat F (position p (length (qs ++ x ∷ [])) (map words rs)) ≡ flat G (the-first (λ a. p (words a)) rs)
+          → flat F (choose t (length qs ∷ []) (position p (suc (length qs)) (map words rs))) ≡ flat G (take 1 (choose t (x ∷ those (λ a. p (words a)) rs) (those (λ a. p (words a)) rs)))
+      go true ih = ap (λ (l : List B). l ++ []) (h qs x rs e)
+      go false ih = rw (← add-one, ← length-append qs (x ∷ [])) ih
+
+-- the lists that the lookup by key goes by, and what it finds of a provider
+abbrev tableList : List Provider → List Entry
+tableList ps = tableEntries none (ownedTables 0 ps)
+
+abbrev eventList : List Provider → List Entry
+eventList ps = flat (λ o. map eventWords (eventsIn (o .table .rows))) (ownedTables 0 ps)
+
+abbrev templateList : List Provider → List Entry
+templateList ps = flat (λ o. map templateWords (templatesIn (o .table .rows))) (ownedTables 0 ps)
+
+module _ (key : Key) where
+  abbrev foundOf : List Provider → ℕ → List Entry
+  foundOf ps n =
+      once [] (flat (λ e. guidAtOffset (ownedBy (tableList ps) n TTBL (templateList ps)) (wordOf EVENT-TEMPLATE e)) (select (keyed key) (ownedBy (tableList ps) n EVNT (eventList ps))))
+
+  abbrev joinOf : Provider → List Entry
+  joinOf p = once [] (flat (templateGuid (templatesOf p)) (those (asked key) (eventsOf p)))
+
+  guid-words : (ts : List Template) (offset : ℕ) → guidAtOffset (map templateWords ts) offset ≡ map (λ t. guidWords (t .guid)) (the-first (λ t. eqb (t .offset) offset) ts)
+  guid-words ts offset = first-words templateWords (λ t. eqb (wordOf TEMPLATE-OFFSET t) offset) (λ t. take GUID (drop TEMPLATE-GUID t)) ts
+
+  one-join : (qs : List Provider) (p : Provider) (rs : List Provider) → All (λ p. All Known (kept (p .elements))) (qs ++ p ∷ rs) → foundOf (qs ++ p ∷ rs) (length qs) ≡ joinOf p
+  one-join qs p rs a =
+      rw (templates-range qs p rs a, events-range qs p rs a, select-words eventWords (keyed key) (eventsOf p))
+      (ap (once []) (flat-map (λ e. guidAtOffset (map templateWords (templatesOf p)) (wordOf EVENT-TEMPLATE e)) eventWords (those (asked key) (eventsOf p)) ∙ simp (guid-words (templatesOf p))))
+
+  guids-join : (ps : List Provider) → All (λ p. All Known (kept (p .elements))) ps
+      → flat (foundOf ps) (position (λ p. alike (take GUID p) (guidWords (key .guid))) 0 (map providerWords ps)) ≡ join ps key
+  unfolding join
+  guids-join ps a =
+      first-position providerWords (λ p. alike (take GUID p) (guidWords (key .guid))) (foundOf ps) joinOf ps
+      (λ qs p rs e. subst (λ (ps : List Provider). All (λ p. All Known (kept (p .elements))) ps → foundOf ps (length qs) ≡ joinOf p) (sym e) (one-join qs p rs) a)
+      [] ps refl
+
+-- An accepted reading, with a capacity for each list: what it leaves in the lent words, and what it counts.
+module _ (bytes words capacities : List ℕ) (c : Crim) (e : reading bytes words capacities ≡ done c) (n : length capacities ≡ length rows) where
+  pub lent-still : lent-enough capacities (held words capacities (done c)) ≡ true
+  unfolding held
+  lent-still = rw (filled-length words 0 rows capacities (lists (c .providers))) (read bytes words capacities c e .lent)
+
+  pub counts-room : counts-fit (counted (lists (c .providers))) capacities ≡ true
+  unfolding lists
+  counts-room = room-counts c c rows capacities (lists (c .providers)) (read bytes words capacities c e .room) n refl
+
+  pub tables-join : tablesFit (counted (lists (c .providers))) (entriesOf (held words capacities (done c)) capacities (counted (lists (c .providers))) TABLES) ≡ true
+  unfolding lists
+  tables-join =
+      let ps = c .providers in
+      let i : length ps ≤ length (map providerWords ps) = omega (arith, length-map ps providerWords) in
+      rw (taken bytes words capacities c e n (place TABLES) (omega arith))
+      (tables-fit (counted (lists ps)) none (ownedTables 0 ps) refl (rw (owned-tables 0 ps) (tables-most ps)) (owned-known 0 _ ps (omega arith) (known bytes c (read bytes words capacities c e .found))))
+
+  guids-here : (key : Key) → guidsOf (held words capacities (done c)) capacities (counted (lists (c .providers))) key ≡ join (c .providers) key
+  unfolding guidsOf lists
+  guids-here key =
+      let t = taken bytes words capacities c e n in
+      rw (t (place TABLES) (omega arith), t (place TEMPLATES) (omega arith), t (place EVENTS) (omega arith), t (place PROVIDERS) (omega arith))
+      (guids-join key (c .providers) (known bytes c (read bytes words capacities c e .found)))
+
+  -- by offset: never 8, and 10 only for a range past the list
+  pub offset-joins : (first count offset : ℕ) → byOffset (held words capacities (done c)) capacities (counted (lists (c .providers))) first count offset
+      ≡ (let ts = getD (lists (c .providers)) (place TEMPLATES) [] in
+      choose (leb (first + count) (length ts))
+      (numbered (position (λ t. eqb (wordOf TEMPLATE-OFFSET t) offset) first (take count (drop first ts))))
+      (template.Refused (own 10)))
+  unfolding byOffset lists
+  offset-joins first count offset = rw (lent-still, counts-room, taken bytes words capacities c e n (place TEMPLATES) (omega arith))
+
+  -- by key: never 10, and else 8 only for the lent list itself; the GUIDs are those of the join of what was read
+  pub key-joins : (key : Key) (lent : List ℕ) → byKey (held words capacities (done c)) capacities (counted (lists (c .providers))) key lent
+      ≡ (let capacity = length lent / GUID in
+      let found = join (c .providers) key in
+      choose (leb capacity 65536) (choose (leb (length found) capacity) (done found) (refused (too-small 11 capacity))) (refused (own 8)))
+  unfolding byKey
+  key-joins key lent = rw (lent-still, counts-room, tables-join, guids-here key)
