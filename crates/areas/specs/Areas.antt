@@ -17,12 +17,12 @@ use Rattle.format.specs.Provider.{Provider}
 use Rattle.format.specs.Crim.{describedAt}
 use Rattle.format.specs.Lists.{Entry, lists}
 use Rattle.format.specs.Answer.{moderate, areas, lent-enough, with-room, counted, filled, capped}
-use Rattle.format.specs.Needs.{needsAll}
-use Rattle.format.specs.Needed.{needed}
-use Rattle.format.specs.Parts as parts
-use Rattle.format.specs.Fits.{Few, walk-fits}
-use Rattle.format.specs.Listed.{listed}
-use Rattle.format.specs.Grows.{passedAll-to}
+use Rattle.format.specs.steps.Needs.{needsAll}
+use Rattle.format.specs.theorems.Needed.{needed}
+use Rattle.format.specs.steps.Parts as parts
+use Rattle.format.specs.theorems.Fits.{Few, walk-fits}
+use Rattle.format.specs.theorems.Listed.{listed}
+use Rattle.format.specs.theorems.Grows.{passedAll-to}
 use Rattle.counts.specs.Short.{widths, numbers, drop-more}
 
 -- n providers, and what is read of them

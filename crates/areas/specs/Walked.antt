@@ -10,8 +10,8 @@ use Rattle.blob.specs.Laws.{not-fine, many-empty, many-stop, many-more, values-
 use Rattle.format.specs.Definition.{step}
 use Rattle.format.specs.Provider.{Provider}
 use Rattle.format.specs.Crim.{describedAt}
-use Rattle.format.specs.Parts.{fits, part, passed, parts, passedAll}
-use Rattle.format.specs.Grows.{passedAll-grows, passed-to, fits-before}
+use Rattle.format.specs.steps.Parts.{fits, part, passed, parts, passedAll}
+use Rattle.format.specs.theorems.Grows.{passedAll-grows, passed-to, fits-before}
 use Rattle.format.specs.declared.Walk.{Walk}
 use Rattle.part.specs.Provided.{partBy, passedBy}
 

@@ -15,9 +15,9 @@ use Rattle.blob.specs.declared.Verdict.{Verdict}
 use Rattle.blob.specs.declared.Verdict.the-variants as verdicts
 use Rattle.format.specs.Area.{Row, rows, place}
 use Rattle.format.specs.Answer.{too-small, capped, moderate, areas}
-use Rattle.format.specs.Needs.{plus, modest}
+use Rattle.format.specs.steps.Needs.{plus, modest}
 use Rattle.format.specs.Table.{kindList}
-use Rattle.format.specs.Listed.{First, first}
+use Rattle.format.specs.theorems.Listed.{First, first}
 
 unfoldable pub short : List Row → List ℕ → List ℕ → Verdict
 short [] cs ks = verdicts.Fine

@@ -7,7 +7,7 @@ ghost use lib.Dec.{leb};
 ghost use lib.ListN.{take, getD};
 ghost use Rattle.format.specs.Area as area;
 ghost use Rattle.format.specs.Answer as answer;
-ghost use Rattle.format.specs.Needs as needs;
+ghost use Rattle.format.specs.steps.Needs as needs;
 ghost use Rattle.format.specs.Table.{kindList};
 ghost use Rattle.counts.specs.Short.{widths, numbers, short};
 use blob::Refusal;

@@ -12,7 +12,7 @@ use Rattle.blob.specs.Le.{le}
 use Rattle.blob.specs.Reading.{Reading, Outcome, done, refused, choose, run, many, verdict}
 use Rattle.blob.specs.Laws.{not-fine, fine-value, run-number, run-after, run-stopped}
 use Rattle.format.specs.Region.{blob-end, until}
-use Rattle.format.specs.Until.{name-until}
+use Rattle.format.specs.theorems.Until.{name-until}
 use Rattle.name.specs.Read.{is-refused}
 use Rattle.table.specs.Headers.{no, of-kinds}
 use Rattle.words.specs.Guid.{guid-found}

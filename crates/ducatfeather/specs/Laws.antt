@@ -11,7 +11,7 @@ use borrow.Author.Tests.{eqb-true}
 use Rattle.blob.specs.Laid.{laid, laid-between}
 use Rattle.blob.specs.Reading.{refused, choose}
 use Rattle.format.specs.Answer.{answer, needing, held, own}
-use Rattle.format.specs.Determined.{needs-refused}
+use Rattle.format.specs.theorems.Determined.{needs-refused}
 use Rattle.ducatfeather.specs.Call.{misfit, each-row}
 
 -- numbers laid into as many are all that is there

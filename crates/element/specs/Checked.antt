@@ -15,14 +15,14 @@ use Rattle.event.specs.Events.{events-fine}
 use Rattle.format.specs.Field.{provider-element-offset, unknown-element-header, unknown-element-end}
 use Rattle.format.specs.Refuse.{offset-out, truncated}
 use Rattle.format.specs.Region.{endRead}
-use Rattle.format.specs.Ends.{is-place, no-end}
+use Rattle.format.specs.theorems.Ends.{is-place, no-end}
 use Rattle.format.specs.Table.{EVNT, MAPS, TTBL, header-length, stride, headerAt, headerRead, tableEnd}
 use Rattle.format.specs.Definition.{definitionsAt}
 use Rattle.format.specs.Template.{templatesAt}
 use Rattle.format.specs.Map.{Mapped, mapsAt}
 use Rattle.format.specs.Provider.{Rows, definitions, maps, templates, Table, table, plain, unknownAt, eventsAt, tableAt, elementOf}
 use Rattle.format.specs.Lists.{mapsIn}
-use Rattle.format.specs.Needs.{entryCount, mapsRead, tableRead, elementRead}
+use Rattle.format.specs.steps.Needs.{entryCount, mapsRead, tableRead, elementRead}
 use Rattle.format.specs.declared.Header.{Header}
 use Rattle.format.specs.declared.HeaderRead.the-variants as headers
 use Rattle.format.specs.declared.EndRead.the-variants as ends

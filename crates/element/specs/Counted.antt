@@ -18,7 +18,7 @@ use Rattle.format.specs.Provider.{Table, Element, table, unknown, descriptorAt,
 use Rattle.format.specs.Lists.{lastOf, or-else, kept, unknowns, definitionsIn, eventsIn, mapsIn, templatesIn}
 use Rattle.format.specs.Answer.{capped}
 use Rattle.format.specs.Area as area
-use Rattle.format.specs.Needs.{entryCount, entriesAll, entriesIn, entriesOf, elementRead}
+use Rattle.format.specs.steps.Needs.{entryCount, entriesAll, entriesIn, entriesOf, elementRead}
 use Rattle.format.specs.declared.Descriptor.{Descriptor}
 use Rattle.format.specs.declared.EntriesRead.the-variants as entries
 use Rattle.format.specs.declared.Needed.{Needed}
@@ -27,7 +27,7 @@ use Rattle.element.specs.Tables.{kind-most, is-unknown, is-table, kept-o
 use Rattle.element.specs.Elements.{from-none, from-stop, from-told, lastOr, last-here, last-other}
 use Rattle.element.specs.Places.{placed, placed-one}
 use Rattle.element.specs.Sums.{grownAll, grown-all}
-use Rattle.format.specs.Needed.{after-all, entries-all}
+use Rattle.format.specs.theorems.Needed.{after-all, entries-all}
 use Rattle.blob.specs.Laws.{not-fine}
 use native.Mathlib.Nat.{zero-add}
 

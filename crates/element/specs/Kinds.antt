@@ -9,7 +9,7 @@ use Rattle.blob.specs.declared.Verdict.the-variants as verdicts
 use Rattle.blob.specs.Reading.{run, verdict, values}
 use Rattle.format.specs.Provider.{Table, Element, elementsFrom}
 use Rattle.format.specs.Lists.{lastOf, kept}
-use Rattle.format.specs.Needs.{placeOf}
+use Rattle.format.specs.steps.Needs.{placeOf}
 use Rattle.table.specs.Headers.{header-bytes}
 use Rattle.element.specs.Tables.{Kept, kept-one}
 use Rattle.element.specs.Places.{placed, kind-place}

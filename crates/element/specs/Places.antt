@@ -13,7 +13,7 @@ use Rattle.blob.specs.Reading.{choose, run, done, verdict, values}
 use Rattle.format.specs.Table.{kindOf}
 use Rattle.format.specs.Provider.{Table, Element, table, unknown, descriptorAt, elementAt, elementsFrom}
 use Rattle.format.specs.Lists.{lastOf}
-use Rattle.format.specs.Needs.{placeOf}
+use Rattle.format.specs.steps.Needs.{placeOf}
 use Rattle.format.specs.declared.Descriptor.{Descriptor}
 use Rattle.element.specs.Tables.{kind-most, is-unknown, is-table}
 use Rattle.element.specs.Elements.{lastOr, last-table, from-none, next-element, from-values}

@@ -11,7 +11,7 @@ use Rattle.format.specs.Table.{kindList}
 use Rattle.format.specs.Provider.{Rows, Table, Element, elementsFrom}
 use Rattle.format.specs.Lists.{lastOf, listOf, rowCount, after}
 use Rattle.format.specs.Answer.{capped}
-use Rattle.format.specs.Needs.{grown, afterAll, placeOf}
+use Rattle.format.specs.steps.Needs.{grown, afterAll, placeOf}
 use Rattle.format.specs.declared.Header.{Header}
 use Rattle.element.specs.Kinds.{keptFrom, kept-more, kept-here, kept-nowhere}
 

@@ -22,8 +22,8 @@ use Rattle.format.specs.Map.{Mapped, mapsAt}
 use Rattle.format.specs.Provider.{definitions, events, maps, templates, Table, Element, table, unknown, plain, eventsAt, tableAt, unknownAt, elementOf, elementAt, elementsFrom}
 use Rattle.format.specs.Area.{DEFINITIONS}
 use Rattle.format.specs.Lists.{lastOf, or-else, listOf, rowCount, mapsIn}
-use Rattle.format.specs.Listed.{first}
-use Rattle.format.specs.Rested.{kind-cases}
+use Rattle.format.specs.theorems.Listed.{first}
+use Rattle.format.specs.theorems.Rested.{kind-cases}
 use Rattle.format.specs.declared.Header.{Header}
 use Rattle.format.specs.declared.Definition.{Definition}
 use Rattle.format.specs.declared.Event.{Event}

@@ -9,7 +9,7 @@ ghost use Rattle.format.specs.Provider.{descriptorAt, unknownAt, eventsAt, tabl
 ghost use Rattle.element.specs.Checked.{without-entries};
 ghost use Rattle.element.specs.Places.{placed};
 ghost use Rattle.element.specs.Counted.{none, elementsRead, neededFor};
-ghost use Rattle.format.specs.Needs.{elementRead, tableRead};
+ghost use Rattle.format.specs.steps.Needs.{elementRead, tableRead};
 use blob::Refusal;
 use blob::Verdict;
 use format::Descriptor;

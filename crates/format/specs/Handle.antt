@@ -11,6 +11,6 @@ use Rattle.blob.specs.Reading.{choose}
 unfoldable pub shown : (bytes : List ℕ) → (size start len : ℕ) → List ℕ
 shown bytes size start len = choose (leb size (length bytes) && leb (start + len) size) (take len (drop start bytes)) []
 
--- what a handle's calls may show: this, and nothing else
-pub record AllowedPart (bytes : List ℕ) (size start len : ℕ) (part : List ℕ) : Type 0 where
-  pub shows : part ≡ shown bytes size start len
+-- What a handle's calls may show: this, and nothing else. It is what the code promises.
+abbrev pub AllowedPart : (bytes : List ℕ) → (size start len : ℕ) → (part : List ℕ) → Type 0
+AllowedPart bytes size start len part = part ≡ shown bytes size start len

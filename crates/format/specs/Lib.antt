@@ -1,4 +1,4 @@
--- What is right, in reading order.
+-- What is right, in reading order: these files, and no others.
 pub mod Field
 pub mod Refuse
 pub mod Region
@@ -20,28 +20,7 @@ pub mod Handle
 pub mod Listing
 pub mod Says
 pub mod Rests
--- What the building blocks speak of besides: what lists need, and what each has of a table and of a provider.
-pub mod Needs
-pub mod Parts
+-- What the building blocks speak of besides, on the way there.
+pub mod steps
 -- Theorems about it.
-pub mod Cases
-pub mod Examples
-pub mod Words
-pub mod Order
-pub mod Codes
-pub mod Determined
-pub mod Said
-pub mod Ends
-pub mod Until
-pub mod Described
-pub mod Rested
-pub mod Block
-pub mod Grows
-pub mod Listed
-pub mod Needed
-pub mod Fits
-pub mod Enough
-pub mod Known
-pub mod Taken
-pub mod Ranges
-pub mod Joins
+pub mod theorems

@@ -24,11 +24,11 @@ use Rattle.format.specs.Map.{mapsAt}
 use Rattle.format.specs.Provider.{Table, tableAt}
 use Rattle.format.specs.Lists.{definitionWords, eventWords, templateWords, mapList, mapEntryWords}
 use Rattle.format.specs.Answer.{capped}
-use Rattle.format.specs.Needs.{grown, entryCount, modest}
-use Rattle.format.specs.Fits.{Few}
-use Rattle.format.specs.Parts.{fits, moved, walked, tablePart}
+use Rattle.format.specs.steps.Needs.{grown, entryCount, modest}
+use Rattle.format.specs.theorems.Fits.{Few}
+use Rattle.format.specs.steps.Parts.{fits, moved, walked, tablePart}
 use Rattle.format.specs.declared.Header.{Header}
-use Rattle.format.specs.Grows.{Grows, walked-grows, fits-before}
+use Rattle.format.specs.theorems.Grows.{Grows, walked-grows, fits-before}
 use Rattle.format.specs.declared.Walk.{Walk}
 use Rattle.kept.specs.Rows.{holdsDefinitions, hasEntries, partBy, walkedBy, table-walked, definitions-part, events-part, maps-part, templates-part}
 

@@ -18,9 +18,9 @@ use Rattle.format.specs.Area.{TABLES, DEFINITIONS, EVENTS, ENTRIES, place}
 use Rattle.format.specs.Table.{EVNT, MAPS, TTBL, header-length}
 use Rattle.format.specs.Provider.{Table, Element, tableAt, elementsFrom}
 use Rattle.format.specs.Lists.{lastOf, definitionsIn, eventsIn, mapsIn, templatesIn, mapList}
-use Rattle.format.specs.Needs.{entryCount, placeOf}
-use Rattle.format.specs.Parts.{tablePart, walked, tableParts, walkedAll, fits}
-use Rattle.format.specs.Grows.{walkedAll-grows, walkedAll-to, fits-before}
+use Rattle.format.specs.steps.Needs.{entryCount, placeOf}
+use Rattle.format.specs.steps.Parts.{tablePart, walked, tableParts, walkedAll, fits}
+use Rattle.format.specs.theorems.Grows.{walkedAll-grows, walkedAll-to, fits-before}
 use Rattle.format.specs.declared.Header.{Header}
 use Rattle.format.specs.declared.Walk.{Walk}
 use Rattle.element.specs.Kinds.{kept-here, kept-nowhere, keptFrom, kept-more}

@@ -22,8 +22,8 @@ use Rattle.format.specs.Template.{templatesAt}
 use Rattle.format.specs.Map.{Mapped, mapsAt}
 use Rattle.format.specs.Provider.{Table, definitions, events, maps, templates, plain, tableAt}
 use Rattle.format.specs.Lists.{rowCount, definitionsIn, eventsIn, mapsIn, templatesIn, definitionWords, eventWords, templateWords, mapList, mapEntryWords}
-use Rattle.format.specs.Needs.{entryCount}
-use Rattle.format.specs.Parts.{tablePart, walked, moved}
+use Rattle.format.specs.steps.Needs.{entryCount}
+use Rattle.format.specs.steps.Parts.{tablePart, walked, moved}
 use Rattle.format.specs.declared.Header.{Header}
 use Rattle.format.specs.declared.Definition.{Definition}
 use Rattle.format.specs.declared.Event.{Event}

@@ -11,7 +11,7 @@ ghost use Rattle.format.specs.Table.{header-length, kindOf};
 ghost use Rattle.format.specs.Definition.{step};
 ghost use Rattle.format.specs.Provider.{descriptorAt, tableAt, elementsFrom};
 ghost use Rattle.format.specs.Lists.{descriptorWords, unknown2Words, kept, unknowns, unknownWords};
-ghost use Rattle.format.specs.Parts as parts;
+ghost use Rattle.format.specs.steps.Parts as parts;
 ghost use Rattle.kept.specs.Unknown.{wordsOf};
 ghost use Rattle.kept.specs.Kinds.{headed, keptAt, Stands, hasAny};
 ghost use Rattle.kept.specs.Rows.{holdsDefinitions, hasEntries, trailingOf, partBy, walkedBy};

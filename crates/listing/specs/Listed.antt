@@ -18,8 +18,8 @@ use Rattle.format.specs.Area.{TEMPLATES, rows, of}
 use Rattle.format.specs.Lists.{lists, ownedTables, templatesIn, templateWords}
 use Rattle.format.specs.Answer.{areas, lent-enough, reading, answer, filled, held}
 use Rattle.format.specs.Listing.{Piece, templateLine, lines, listing, sixty-four}
-use Rattle.format.specs.Codes.{refused-code}
-use Rattle.format.specs.Block.{reading-crim}
+use Rattle.format.specs.theorems.Codes.{refused-code}
+use Rattle.format.specs.theorems.Block.{reading-crim}
 use Rattle.format.specs.declared.Answer.{Answer}
 use Rattle.format.specs.declared.Template.{Template}
 use Rattle.areas.specs.Areas.{list-fits}

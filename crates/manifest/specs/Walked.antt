@@ -10,7 +10,7 @@ use Rattle.format.specs.Definition.{step}
 use Rattle.format.specs.Area.{none}
 use Rattle.format.specs.Provider.{Provider}
 use Rattle.format.specs.Crim.{describedAt}
-use Rattle.format.specs.Needs.{needsOf, plus, needsAll, providerRead, providersRead}
+use Rattle.format.specs.steps.Needs.{needsOf, plus, needsAll, providerRead, providersRead}
 use Rattle.format.specs.declared.Needed.{Needed}
 
 -- what the answer for a provider tells of its reading

@@ -7,7 +7,7 @@ ghost use Rattle.blob.specs.Reading.{run, refused, verdict};
 ghost use Rattle.format.specs.Answer as spec;
 ghost use Rattle.format.specs.Area.{none};
 ghost use Rattle.format.specs.Crim.{providersOf};
-ghost use Rattle.format.specs.Needs as need;
+ghost use Rattle.format.specs.steps.Needs as need;
 ghost use Rattle.areas.specs.Areas.{providers, providersIn};
 ghost use Rattle.manifest.specs.Read.{blockOf, blockReading};
 use areas::Position;

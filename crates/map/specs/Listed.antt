@@ -15,7 +15,7 @@ use Rattle.blob.specs.Laws.{not-fine, run-bind, run-number, run-room, run-past,
 use Rattle.blob.specs.Finds.{Finds, finds-choose, finds-next}
 use Rattle.format.specs.Refuse.{size-out}
 use Rattle.format.specs.Region.{Region, until, end, regionAt, endRead}
-use Rattle.format.specs.Ends.{is-end, no-end}
+use Rattle.format.specs.theorems.Ends.{is-end, no-end}
 use Rattle.format.specs.Field.{table-size, MAPS-offsets-array}
 use Rattle.format.specs.Table.{MAPS, header-length}
 use Rattle.format.specs.Definition.{step}

@@ -12,7 +12,7 @@ use Rattle.blob.specs.Laws.{not-fine, many-more, many-stop, many-length, values
 use Rattle.format.specs.Definition.{step}
 use Rattle.format.specs.Map.{Mapped, entryAt, mapRead}
 use Rattle.format.specs.Answer.{capped}
-use Rattle.format.specs.Needs.{entryCount, mapsRead}
+use Rattle.format.specs.steps.Needs.{entryCount, mapsRead}
 use Rattle.format.specs.Lists.{mapWords, mapEntryWords, mapList}
 use Rattle.format.specs.declared.Map.{Map}
 use Rattle.format.specs.declared.MapRead.the-variants as read

@@ -9,7 +9,7 @@ use lib.ListN.{length}
 use Rattle.blob.specs.Reading.{got, choose, run}
 use Rattle.blob.specs.Laws.{run-number, run-demand, bind-same, same-room}
 use Rattle.format.specs.Region.{Region, blob-end, until, end}
-use Rattle.format.specs.Until.{run-inside}
+use Rattle.format.specs.theorems.Until.{run-inside}
 use Rattle.format.specs.Map.{VMAP, valueMapAt, otherMap, mapAt, up-to-4}
 
 value-map-until : (R : Region) (at : ℕ) (s : List ℕ) → run (valueMapAt R at) s ≡ run (valueMapAt (until (end (length s) R)) at) s

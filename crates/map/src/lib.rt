@@ -8,7 +8,7 @@ ghost use Rattle.blob.specs.Reading.{run, verdict, values, choose};
 ghost use Rattle.format.specs.Field.{VMAP-map-string};
 ghost use Rattle.format.specs.Region.{blob-end, until};
 ghost use Rattle.format.specs.Map.{valueMapAt, otherMap, mapAt, mapsAt, mapRead};
-ghost use Rattle.format.specs.Needs.{entryCount, mapsRead};
+ghost use Rattle.format.specs.steps.Needs.{entryCount, mapsRead};
 ghost use Rattle.format.specs.Lists.{mapWords, mapEntryWords, mapList};
 ghost use Rattle.format.specs.Name as name;
 ghost use Rattle.format.specs.Name.{nameAt};

@@ -18,9 +18,9 @@ use Rattle.format.specs.Definition.{guidAt, step}
 use Rattle.format.specs.Provider.{Provider, wevtAt, descriptorAt, elementAt, elementsFrom}
 use Rattle.format.specs.Crim.{describedAt}
 use Rattle.format.specs.Lists.{kept, unknowns, descriptorWords, unknown2Words, unknownWords}
-use Rattle.format.specs.Parts.{fits, moved, next, part, passed, tableParts, walkedAll}
-use Rattle.format.specs.Grows.{passed-grows, passed-to, fits-before}
-use Rattle.format.specs.Described.{Described, described}
+use Rattle.format.specs.steps.Parts.{fits, moved, next, part, passed, tableParts, walkedAll}
+use Rattle.format.specs.theorems.Grows.{passed-grows, passed-to, fits-before}
+use Rattle.format.specs.theorems.Described.{Described, described}
 use Rattle.format.specs.declared.Guid.{Guid}
 use Rattle.format.specs.declared.Wevt.{Wevt}
 use Rattle.format.specs.declared.Walk.{Walk}

@@ -7,7 +7,7 @@ ghost use Rattle.blob.specs.Reading.{run, done, verdict};
 ghost use Rattle.blob.specs.Laid.{laid};
 ghost use Rattle.format.specs.Provider.{wevtAt};
 ghost use Rattle.format.specs.Crim.{describedAt};
-ghost use Rattle.format.specs.Parts.{fits, next, moved};
+ghost use Rattle.format.specs.steps.Parts.{fits, next, moved};
 ghost use Rattle.part.specs.Provided.{partBy, passedBy, ofTables};
 use blob::Verdict;
 use format::Guid;

@@ -20,7 +20,7 @@ use Rattle.format.specs.Definition.{guidAt, step}
 use Rattle.format.specs.Provider.{Element, wevtAt, wevtRead, descriptorAt, elementAt, elementsFrom, providerAt}
 use Rattle.format.specs.Crim.{describedAt}
 use Rattle.format.specs.Answer.{capped}
-use Rattle.format.specs.Needs.{plus, providerRead}
+use Rattle.format.specs.steps.Needs.{plus, providerRead}
 use Rattle.format.specs.declared.Guid.{Guid}
 use Rattle.format.specs.declared.Descriptor.{Descriptor}
 use Rattle.format.specs.declared.Wevt.{Wevt}

@@ -7,7 +7,7 @@ ghost use Rattle.format.specs.Area.{none};
 ghost use Rattle.format.specs.Definition.{step};
 ghost use Rattle.format.specs.Provider as spec;
 ghost use Rattle.format.specs.Crim.{describedAt};
-ghost use Rattle.format.specs.Needs.{modest, plus, providerRead};
+ghost use Rattle.format.specs.steps.Needs.{modest, plus, providerRead};
 ghost use Rattle.provider.specs.Parts.{own};
 use blob::Refusal;
 use blob::Verdict;

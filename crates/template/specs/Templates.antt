@@ -14,7 +14,7 @@ use Rattle.format.specs.Field.{table-size}
 use Rattle.format.specs.Region.{until, end, inside, regionAt, endRead}
 use Rattle.format.specs.Table.{TTBL}
 use Rattle.format.specs.Template.{templateAt, next, templatesAt}
-use Rattle.format.specs.Until.{template-until, region-told, region-refused}
+use Rattle.format.specs.theorems.Until.{template-until, region-told, region-refused}
 use Rattle.format.specs.declared.EndRead.the-variants as ends
 use Rattle.format.specs.declared.Header.{Header}
 use Rattle.format.specs.declared.Template.{Template}

@@ -12,7 +12,7 @@ use Rattle.blob.specs.Laid.{laid}
 use Rattle.format.specs.Definition.{step}
 use Rattle.format.specs.Provider.{Provider}
 use Rattle.format.specs.Crim.{describedAt}
-use Rattle.format.specs.Parts.{fits, start, parts, passedAll}
+use Rattle.format.specs.steps.Parts.{fits, start, parts, passedAll}
 use Rattle.areas.specs.Areas.{providersIn}
 use Rattle.areas.specs.Walked.{next-provider, next-fine, next-fits, passed-more, parts-more, none-left}
 use Rattle.areas.proofs.fill.Statement.{statement}

@@ -6,7 +6,7 @@ use lib.ListN.{length, getD, length-take, length-drop}
 use borrow.Rule.Slice.PartMut.{midOf}
 use Rattle.blob.specs.Laid.{laid, laid-area}
 use Rattle.counts.specs.Short.{widths, numbers}
-use Rattle.format.specs.Parts.{fits, start, passedAll}
+use Rattle.format.specs.steps.Parts.{fits, start, passedAll}
 use Rattle.areas.specs.Areas.{providersIn, parts-room}
 use borrow.Author.Needs.{needs}
 use borrow.Author.Needs.{needs}

@@ -2,7 +2,7 @@
 use Prim.Native.Nat.{_-_, _≤_}
 use mathlib.Core.Path.{_≡_, refl, sym, _∙_}
 use lib.ListN.{length, length-set}
-use Rattle.format.specs.Needs.{plus, modest}
+use Rattle.format.specs.steps.Needs.{plus, modest}
 use Rattle.counts.specs.Short.{plusFrom, plus-step, plus-end, modest-set, modest-at}
 use borrow.Author.Needs.{needs}
 use native.Mathlib.Omega.{arith}

@@ -4,7 +4,7 @@ use borrow.Author.Needs.{needs}
 use Rattle.blob.specs.declared.Verdict.the-variants as verdicts
 use Rattle.blob.specs.Reading.{verdict}
 use Rattle.blob.specs.Laws.{answer-refused}
-use Rattle.format.specs.Ends.{is-place, no-end}
+use Rattle.format.specs.theorems.Ends.{is-place, no-end}
 use Rattle.table.specs.Headers.{end-fits}
 use Rattle.definition.specs.Records.{table-refused, table-rows}
 use Rattle.definition.proofs.check_definitions.Statement.{statement}

@@ -2,7 +2,7 @@
 use mathlib.Core.Path.{ap, sym, _∙_}
 use Rattle.blob.specs.Reading.{done}
 use Rattle.format.specs.Region.{blob-end}
-use Rattle.format.specs.Until.{name-until}
+use Rattle.format.specs.theorems.Until.{name-until}
 use Rattle.definition.specs.Records.{definition-found, name-fine}
 use borrow.Author.Needs.{needs}
 use Rattle.definition.proofs.definition_of.Statement.{statement}

@@ -11,7 +11,7 @@ use Rattle.format.specs.Area.{none}
 use Rattle.format.specs.Provider.{elementsFrom}
 use Rattle.format.specs.Lists.{kept}
 use Rattle.format.specs.Answer.{capped}
-use Rattle.format.specs.Needs.{modest}
+use Rattle.format.specs.steps.Needs.{modest}
 use Rattle.blob.specs.Laws.{fine-done}
 use native.Mathlib.Nat.{zero-add}
 use Rattle.counts.specs.Short.{modest-set}

@@ -1,6 +1,6 @@
 use borrow.Author.Needs.{needs}
 use mathlib.Core.Path.{ap, sym, _∙_}
-use Rattle.format.specs.Needs.{tableRead}
+use Rattle.format.specs.steps.Needs.{tableRead}
 use Rattle.element.specs.Checked.{events-refused, events-found}
 use Rattle.element.proofs.check_events.Statement.{statement}
 use Rattle.element.proofs.check_events.Tie as tie

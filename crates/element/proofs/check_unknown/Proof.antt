@@ -6,7 +6,7 @@ use mathlib.Core.Path.{_≡_}
 use lib.ListN.{length}
 use Rattle.format.specs.Field.{unknown-element-end}
 use Rattle.format.specs.Refuse.{offset-out}
-use Rattle.format.specs.Needs.{elementRead}
+use Rattle.format.specs.steps.Needs.{elementRead}
 use Rattle.format.specs.declared.EntriesRead.the-variants as entries
 use Rattle.element.specs.Checked.{unknown-past, unknown-short, unknown-out, unknown-fine}
 use Rattle.element.proofs.check_unknown.Statement.{statement}

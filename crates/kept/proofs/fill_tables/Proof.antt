@@ -11,7 +11,7 @@ use Rattle.blob.specs.Reading.{run, values}
 use Rattle.blob.specs.Laid.{laid, length-laid}
 use Rattle.format.specs.Provider.{Table, elementsFrom}
 use Rattle.format.specs.Lists.{kept}
-use Rattle.format.specs.Parts.{fits, walkedAll, tableParts}
+use Rattle.format.specs.steps.Parts.{fits, walkedAll, tableParts}
 use Rattle.element.specs.Places.{placed, kind-place}
 use Rattle.element.specs.Kinds.{kindsFrom, keptFrom, kept-none}
 use Rattle.kept.specs.Kinds.{stands, kept-at, Put, put-here, put-none, walked-more, parts-more, rest-fits}

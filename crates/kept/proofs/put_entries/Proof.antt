@@ -2,7 +2,7 @@
 use mathlib.Core.Path.{ap, sym, _∙_}
 use native.Mathlib.Omega.{arith}
 use lib.ListN.{length-take, length-drop}
-use Rattle.format.specs.Parts.{moved}
+use Rattle.format.specs.steps.Parts.{moved}
 use Rattle.kept.specs.Filled.{area-laid, filled-8}
 use borrow.Author.Needs.{needs}
 use Rattle.kept.proofs.put_entries.Statement.{statement}

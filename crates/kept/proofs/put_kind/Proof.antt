@@ -3,7 +3,7 @@ use mathlib.Core.Path.{ap, sym, _∙_, subst}
 use native.Mathlib.Omega.{arith}
 use lib.ListN.{length}
 use Rattle.blob.specs.Laid.{laid}
-use Rattle.format.specs.Parts.{fits}
+use Rattle.format.specs.steps.Parts.{fits}
 use Rattle.table.specs.Headers.{header-bytes}
 use Rattle.kept.specs.Kinds.{somewhere, kind-here}
 use borrow.Author.Needs.{needs}

@@ -3,7 +3,7 @@ use mathlib.Core.Path.{sym, _∙_, subst}
 use lib.ListN.{length}
 use Rattle.blob.specs.Reading.{run}
 use Rattle.format.specs.Provider.{tableAt}
-use Rattle.format.specs.Parts.{fits}
+use Rattle.format.specs.steps.Parts.{fits}
 use borrow.Author.Tests.{eqb-true}
 use Rattle.kept.specs.Filled.{by-list, by-kind, as-templates, walked-templates}
 use borrow.Author.Needs.{needs}

@@ -6,7 +6,7 @@ use Rattle.blob.specs.Laws.{fine-value}
 use Rattle.blob.specs.Laid.{laid}
 use Rattle.kept.specs.Rows.{put-words}
 use Rattle.kept.specs.Filled.{by-grows, filled-4, few-modest}
-use Rattle.format.specs.Grows.{fits-before}
+use Rattle.format.specs.theorems.Grows.{fits-before}
 use borrow.Author.Needs.{needs}
 use borrow.Author.Needs.{needs}
 use Rattle.kept.proofs.put_table.Statement.{statement}

@@ -3,7 +3,7 @@ use native.Mathlib.Omega.{arith}
 use Rattle.blob.specs.Laws.{fine-value}
 use Rattle.kept.specs.Rows.{trailingOf, shape, no-trailing, trailing-room, trailing-is, never-ends}
 use Rattle.table.specs.Headers.{end-bounds}
-use Rattle.format.specs.Ends.{is-place, no-end}
+use Rattle.format.specs.theorems.Ends.{is-place, no-end}
 use borrow.Author.Needs.{needs}
 use Rattle.kept.proofs.trailing_of.Statement.{statement}
 use Rattle.kept.proofs.trailing_of.Tie as tie

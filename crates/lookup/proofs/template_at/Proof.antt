@@ -43,8 +43,10 @@ returns-2 c =
     let e = c .before .before in
     let f = e .before .before in
     let a = f .before .before .args in
-    record { answered = ap template.Refused (c .own .ensures)
-    ∙ sym (offset-past (a .words .now) (a .capacities) (a .t3) _ _ _ (fits (a .words .now) (a .capacities) (a .t3) (sym (f .fit .ensures) ∙ e .enum-told .given .1)) (c .before .if1 .taken)) }
+    record {
+      answered = ap template.Refused (c .own .ensures)
+          ∙ sym (offset-past (a .words .now) (a .capacities) (a .t3) _ _ _ (fits (a .words .now) (a .capacities) (a .t3) (sym (f .fit .ensures) ∙ e .enum-told .given .1)) (c .before .if1 .taken));
+    }
 
 area-at-requires : tie.Need-area-at-requires
 area-at-requires c κs = search needs
@@ -65,10 +67,12 @@ returns-3 c =
     let e = t .before .before in
     let f = e .before .before in
     let a = f .before .before .args in
-    record { answered = c .shown .ensures
-    ∙ ap shown (c .before .at-offset .ensures)
-    ∙ ap (λ s. shown (found (lowest (a .words .now) (record { start = s; first = a .first; count = a .count }) (a .offset)))) (t .area-at .ensures .0)
-    ∙ sym (offset-found (a .words .now) (a .capacities) (a .t3) _ _ _ (fits (a .words .now) (a .capacities) (a .t3) (sym (f .fit .ensures) ∙ e .enum-told .given .1)) (t .before .if1 .left)) }
+    record {
+      answered = c .shown .ensures
+          ∙ ap shown (c .before .at-offset .ensures)
+          ∙ ap (λ s. shown (found (lowest (a .words .now) (record { start = s; first = a .first; count = a .count }) (a .offset)))) (t .area-at .ensures .0)
+          ∙ sym (offset-found (a .words .now) (a .capacities) (a .t3) _ _ _ (fits (a .words .now) (a .capacities) (a .t3) (sym (f .fit .ensures) ∙ e .enum-told .given .1)) (t .before .if1 .left));
+    }
 
 pub template-at-spec : {M : Type 1} → statement M
 template-at-spec =

@@ -7,8 +7,8 @@ use Rattle.blob.specs.Reading.{run, many}
 use Rattle.format.specs.Area.{none}
 use Rattle.format.specs.Definition.{step}
 use Rattle.format.specs.Crim.{describedAt}
-use Rattle.format.specs.Needs.{modest, needsAll, providersRead}
-use Rattle.format.specs.Needed.{plus-modest}
+use Rattle.format.specs.steps.Needs.{modest, needsAll, providersRead}
+use Rattle.format.specs.theorems.Needed.{plus-modest}
 use Rattle.areas.specs.Areas.{providers}
 use Rattle.areas.specs.Walked.{none-left}
 use Rattle.manifest.specs.Walked.{is-needs, is-refused, needs-more, needs-stop}

@@ -6,7 +6,7 @@ use lib.ListN.{length}
 use Rattle.blob.specs.declared.Refusal.{Refusal}
 use Rattle.blob.specs.declared.Verdict.the-variants as verdicts
 use Rattle.format.specs.Area.{none}
-use Rattle.format.specs.Needs.{providersRead}
+use Rattle.format.specs.steps.Needs.{providersRead}
 use Rattle.manifest.specs.Read.{array-cut, array-whole}
 use borrow.Author.Needs.{needs}
 use borrow.Author.Needs.{needs}

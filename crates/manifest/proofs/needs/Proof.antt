@@ -5,7 +5,7 @@ use lib.ListN.{length-take}
 use Rattle.blob.specs.Reading.{run, refused}
 use Rattle.format.specs.Crim.{header}
 use Rattle.format.specs.Answer.{answer, needing}
-use Rattle.format.specs.Determined.{needs-refused}
+use Rattle.format.specs.theorems.Determined.{needs-refused}
 use Rattle.manifest.specs.Read.{block-long, block-headless, block-headed, is-header, no-header-read, sized}
 use borrow.Author.Needs.{needs}
 use borrow.Author.Needs.{needs}

@@ -5,7 +5,7 @@ use mathlib.Core.List.{List}
 use Rattle.blob.specs.Reading.{run}
 use Rattle.format.specs.Answer.{answer, needing}
 use Rattle.format.specs.Crim.{providersOf}
-use Rattle.format.specs.Needed.{needed}
+use Rattle.format.specs.theorems.Needed.{needed}
 use Rattle.manifest.specs.Read.{block-refused, block-done}
 use Rattle.manifest.specs.Walked.{is-providers, no-providers}
 use borrow.Author.Needs.{needs}

@@ -4,7 +4,7 @@ use Rattle.blob.specs.Reading.{run, verdict, values}
 use Rattle.format.specs.Area.{none}
 use Rattle.format.specs.Answer.{answer, held}
 use Rattle.format.specs.Crim.{providersOf}
-use Rattle.format.specs.Needs.{needsAll}
+use Rattle.format.specs.steps.Needs.{needsAll}
 use Rattle.manifest.specs.Read.{array-done, reading-refused}
 use Rattle.manifest.specs.Walked.{is-providers, no-providers}
 use borrow.Author.Needs.{needs}

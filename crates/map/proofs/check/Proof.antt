@@ -2,8 +2,8 @@
 use mathlib.Core.Path.{ap, sym, _∙_}
 use native.Mathlib.Omega.{arith}
 use Rattle.format.specs.declared.EntriesRead.the-variants as maps
-use Rattle.format.specs.Needs.{mapsRead}
-use Rattle.format.specs.Ends.{region-bounds}
+use Rattle.format.specs.steps.Needs.{mapsRead}
+use Rattle.format.specs.theorems.Ends.{region-bounds}
 use Rattle.map.specs.Listed.{maps-refused, maps-cut, maps-listed}
 use borrow.Author.Needs.{needs}
 use Rattle.map.proofs.check.Statement.{statement}

@@ -7,7 +7,7 @@ use lib.ListN.{length}
 use Rattle.blob.specs.Reading.{run}
 use Rattle.blob.specs.Laws.{many-refused, many-empty}
 use Rattle.format.specs.Definition.{step}
-use Rattle.format.specs.Needs.{mapsRead}
+use Rattle.format.specs.steps.Needs.{mapsRead}
 use Rattle.map.specs.Decides.{is-refused}
 use Rattle.map.specs.Listed.{listedAt, listed}
 use Rattle.map.specs.Next.{unread, countedFrom, counted-all, counted-none, next-counted}

@@ -2,7 +2,7 @@
 use mathlib.Core.Path.{ap, sym, _∙_}
 use native.Mathlib.Omega.{arith}
 use Rattle.blob.specs.Reading.{verdict}
-use Rattle.format.specs.Ends.{region-bounds}
+use Rattle.format.specs.theorems.Ends.{region-bounds}
 use Rattle.map.specs.Listed.{maps-never, maps-room, maps-listed}
 use borrow.Author.Needs.{needs}
 use Rattle.map.proofs.fill_entries.Statement.{statement}

@@ -3,7 +3,7 @@ use mathlib.Core.Path.{ap, sym, _∙_}
 use borrow.Author.Needs.{needs}
 use Rattle.format.specs.declared.MapRead.the-variants as read
 use Rattle.format.specs.Region.{blob-end}
-use Rattle.format.specs.Until.{name-until}
+use Rattle.format.specs.theorems.Until.{name-until}
 use Rattle.name.specs.Read.{is-refused}
 use Rattle.map.specs.Decides.{namedMap}
 use Rattle.map.proofs.named_map.Statement.{statement}

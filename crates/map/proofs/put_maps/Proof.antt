@@ -9,7 +9,7 @@ use Rattle.blob.specs.Laid.{laid, flat}
 use Rattle.blob.specs.Reading.{run, verdict, values}
 use Rattle.blob.specs.Laws.{fill-none}
 use Rattle.format.specs.Definition.{step}
-use Rattle.format.specs.Needs.{entryCount}
+use Rattle.format.specs.steps.Needs.{entryCount}
 use Rattle.format.specs.Lists.{mapList}
 use Rattle.map.specs.Listed.{listedAt, listed}
 use Rattle.map.specs.Next.{unread, mapsWords, count-none, never-refused, next-fine, next-count, next-maps}

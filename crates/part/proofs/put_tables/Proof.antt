@@ -4,7 +4,7 @@ use native.Mathlib.Omega.{arith}
 use lib.ListN.{length}
 use Rattle.blob.specs.Reading.{verdict}
 use Rattle.blob.specs.Laid.{laid}
-use Rattle.format.specs.Parts.{next}
+use Rattle.format.specs.steps.Parts.{next}
 use Rattle.part.specs.Provided.{given, filled-tables, tables-fit, moved-none}
 use borrow.Author.Needs.{needs}
 use Rattle.part.proofs.put_tables.Statement.{statement}

@@ -3,7 +3,7 @@ use mathlib.Core.Path.{ap, sym, _∙_, subst}
 use native.Mathlib.Omega.{arith}
 use lib.ListN.{length, length-take, length-drop}
 use Rattle.blob.specs.Reading.{verdict}
-use Rattle.format.specs.Parts.{fits, next, moved}
+use Rattle.format.specs.steps.Parts.{fits, next, moved}
 use Rattle.part.specs.Provided.{given, started, area-laid, filled-10}
 use borrow.Author.Needs.{needs}
 use Rattle.part.proofs.put_unknown.Statement.{statement}

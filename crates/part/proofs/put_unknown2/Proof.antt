@@ -2,7 +2,7 @@
 use mathlib.Core.Path.{sym, _∙_, subst}
 use native.Mathlib.Omega.{arith}
 use lib.ListN.{length, length-take, length-drop}
-use Rattle.format.specs.Parts.{fits}
+use Rattle.format.specs.steps.Parts.{fits}
 use Rattle.part.specs.Provided.{given, started, area-laid, filled-3}
 use borrow.Author.Needs.{needs}
 use Rattle.part.proofs.put_unknown2.Statement.{statement}

@@ -1,7 +1,7 @@
 -- Way by way, as Parts has them.
 use mathlib.Core.Path.{ap, sym, _∙_}
 use Rattle.blob.specs.declared.Verdict.the-variants as verdicts
-use Rattle.format.specs.Needs.{providerRead}
+use Rattle.format.specs.steps.Needs.{providerRead}
 use Rattle.provider.specs.Parts.{had-room, wevt-refused, array-refused, descriptors-refused, words-refused, elements-refused, provider-found}
 use borrow.Author.Needs.{needs}
 use borrow.Author.Needs.{needs}

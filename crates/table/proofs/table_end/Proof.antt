@@ -4,7 +4,7 @@ use native.Mathlib.Omega.{arith}
 use borrow.Author.Needs.{needs}
 use Rattle.blob.specs.Laws.{answer-found, answer-refused}
 use Rattle.format.specs.declared.EndRead.the-variants as read
-use Rattle.format.specs.Ends.{is-place, no-end}
+use Rattle.format.specs.theorems.Ends.{is-place, no-end}
 use Rattle.table.specs.Headers.{end-cut, end-by-count, end-unbounded, end-past, end-by-size}
 use Rattle.table.proofs.table_end.Statement.{statement}
 use Rattle.table.proofs.table_end.Tie as tie

@@ -3,7 +3,7 @@ use mathlib.Core.Path.{ap, sym, _∙_}
 use native.Mathlib.Omega.{arith}
 use borrow.Author.Needs.{needs}
 use Rattle.blob.specs.Reading.{verdict}
-use Rattle.format.specs.Ends.{region-bounds}
+use Rattle.format.specs.theorems.Ends.{region-bounds}
 use Rattle.template.specs.Templates.{templates-told, templates-refused}
 use Rattle.template.proofs.check.Statement.{statement}
 use Rattle.template.proofs.check.Tie as tie

@@ -4,7 +4,7 @@ use native.Mathlib.Omega.{arith}
 use borrow.Author.Needs.{needs}
 use Rattle.blob.specs.Reading.{verdict}
 use Rattle.blob.specs.Laws.{not-fine}
-use Rattle.format.specs.Ends.{region-bounds}
+use Rattle.format.specs.theorems.Ends.{region-bounds}
 use Rattle.template.specs.Templates.{templates-told, templates-refused}
 use Rattle.template.proofs.fill.Statement.{statement}
 use Rattle.template.proofs.fill.Tie as tie

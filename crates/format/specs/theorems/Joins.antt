@@ -22,14 +22,14 @@ use Rattle.format.specs.Lists.{Entry, kept, Owned, ownedTables, listOf, 
 use Rattle.format.specs.Answer.{own, too-small, lent-enough, with-room, reading, counted, held}
 use Rattle.format.specs.Lookup.{entriesOf, wordOf, counts-fit, select, position, numbered, byOffset, alike, once, tablesFit, ownedBy, keyed, guidAtOffset, guidsOf, byKey}
 use Rattle.format.specs.Join.{those, the-first, eventsOf, templatesOf, asked, templateGuid, join}
-use Rattle.format.specs.Parts.{behindAll}
-use Rattle.format.specs.Grows.{behindAll-grows}
-use Rattle.format.specs.Listed.{owned, lists-itemized, first}
-use Rattle.format.specs.Needed.{mapList-length}
-use Rattle.format.specs.Fits.{tables, tables-end}
-use Rattle.format.specs.Known.{All, Known, Sound, owned-known, known}
-use Rattle.format.specs.Taken.{read, filled-length, taken}
-use Rattle.format.specs.Ranges.{events-range, templates-range}
+use Rattle.format.specs.steps.Parts.{behindAll}
+use Rattle.format.specs.theorems.Grows.{behindAll-grows}
+use Rattle.format.specs.theorems.Listed.{owned, lists-itemized, first}
+use Rattle.format.specs.theorems.Needed.{mapList-length}
+use Rattle.format.specs.theorems.Fits.{tables, tables-end}
+use Rattle.format.specs.theorems.Known.{All, Known, Sound, owned-known, known}
+use Rattle.format.specs.theorems.Taken.{read, filled-length, taken}
+use Rattle.format.specs.theorems.Ranges.{events-range, templates-range}
 use Rattle.format.specs.declared.Key.{Key}
 use Rattle.format.specs.declared.Template.{Template}
 use Rattle.format.specs.declared.TemplateFound.the-variants as template

@@ -21,7 +21,7 @@ use Rattle.format.specs.Area.{Row, rows}
 use Rattle.format.specs.Lists.{Entry, lists}
 use Rattle.format.specs.Answer.{moderate, areas, lent-enough, with-room, reading, counted, answer, filled, held}
 use Rattle.format.specs.Rests.{providersBytes, restsOn}
-use Rattle.format.specs.Rested.{Headed, Read, crim-read, asked, asked-inside, headed, n-bytes}
+use Rattle.format.specs.theorems.Rested.{Headed, Read, crim-read, asked, asked-inside, headed, n-bytes}
 
 -- bytes 4 to 7, which hold CRIM.size
 abbrev pub SizeByte : ℕ → Type 0

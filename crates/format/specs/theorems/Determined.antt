@@ -35,7 +35,7 @@ module _ (words capacities counts : List ℕ) where
   determined-for key lent f g after after' h k = (h .answered ∙ sym (k .answered), h .kept ∙ sym (k .kept))
 
 pub determined-part : (bytes : List ℕ) (size start len : ℕ) (p q : List ℕ) → AllowedPart bytes size start len p → AllowedPart bytes size start len q → p ≡ q
-determined-part bytes size start len p q h k = h .shows ∙ sym (k .shows)
+determined-part bytes size start len p q h k = h ∙ sym k
 
 -- the counts of an accepted blob are the lengths of its lists
 pub counts-are-lengths : (c : Crim) → answer (done c) .counts ≡ map (λ l. length l) (lists (c .providers))

@@ -11,7 +11,7 @@ use Rattle.blob.specs.Laws.{run-after, run-stopped, run-number, run-demand}
 use Rattle.format.specs.Region.{Region, blob-end, until, end, inside, endRead}
 use Rattle.format.specs.Name.{absent, sized, nameAt}
 use Rattle.format.specs.Template.{templateAt}
-use Rattle.format.specs.Ends.{is-end, no-end}
+use Rattle.format.specs.theorems.Ends.{is-end, no-end}
 use Rattle.format.specs.declared.EndRead.the-variants as read
 
 -- a place is in a region where it is not past the region's end

@@ -15,7 +15,7 @@ use Rattle.blob.specs.Laws.{length-flat}
 use Rattle.format.specs.Area.{PROVIDERS, DESCRIPTORS, UNKNOWN2, TABLES, MAPS, UNKNOWN}
 use Rattle.format.specs.Provider.{Table, Provider}
 use Rattle.format.specs.Lists.{descriptorWords, unknown2Words, unknownWords, kept, unknowns}
-use Rattle.format.specs.Parts.{fits, behind, behindAll, walked, walkedAll, tablePart, tableParts, by-list, next, part, passed, parts, passedAll}
+use Rattle.format.specs.steps.Parts.{fits, behind, behindAll, walked, walkedAll, tablePart, tableParts, by-list, next, part, passed, parts, passedAll}
 use Rattle.format.specs.declared.Walk.{Walk}
 
 -- what holds of each of two holds of the one that is chosen

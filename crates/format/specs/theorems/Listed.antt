@@ -13,9 +13,9 @@ use Rattle.format.specs.Map.{Mapped}
 use Rattle.format.specs.Provider.{Rows, Table, Provider}
 use Rattle.format.specs.Lists.{Entry, providerWords, descriptorWords, unknown2Words, definitionWords, eventWords, mapEntryWords, templateWords, unknownWords, kept, unknowns, Owned, ownedTables, ownedUnknowns, tableEntries, definitionsIn, eventsIn, mapsIn, templatesIn, mapList, lists}
 use Rattle.format.specs.Area.{PROVIDERS, DESCRIPTORS, UNKNOWN2, TABLES, DEFINITIONS, EVENTS, MAPS, ENTRIES, TEMPLATES, UNKNOWN, rows, place, none, of, more}
-use Rattle.format.specs.Needs.{entryCount, of-tables, entriesIn}
-use Rattle.format.specs.Parts.{start, walked, walkedAll, tablePart, tableParts, part, passed, parts}
-use Rattle.format.specs.Grows.{walkedAll-ahead, behindAll-length}
+use Rattle.format.specs.steps.Needs.{entryCount, of-tables, entriesIn}
+use Rattle.format.specs.steps.Parts.{start, walked, walkedAll, tablePart, tableParts, part, passed, parts}
+use Rattle.format.specs.theorems.Grows.{walkedAll-ahead, behindAll-length}
 use Rattle.format.specs.declared.Walk.{Walk}
 
 abbrev pub owned : ℕ → List Table → List Owned

@@ -12,8 +12,8 @@ use Rattle.format.specs.Map.{Mapped}
 use Rattle.format.specs.Provider.{Rows, definitions, events, maps, templates, Table, Provider}
 use Rattle.format.specs.Lists.{kept, unknowns, Owned, ownedTables, ownedUnknowns, after, tableEntries, definitionsIn, eventsIn, mapsIn, templatesIn, mapList, lists}
 use Rattle.format.specs.Answer.{counted, capped}
-use Rattle.format.specs.Needs.{entryCount, entriesAll, afterAll, of-tables, entriesIn, has, needsOf, plus, modest, needsAll}
-use Rattle.format.specs.Listed.{lists-itemized}
+use Rattle.format.specs.steps.Needs.{entryCount, entriesAll, afterAll, of-tables, entriesIn, has, needsOf, plus, modest, needsAll}
+use Rattle.format.specs.theorems.Listed.{lists-itemized}
 
 -- how many entries each list has of some tables, with so many before; written out for each row
 module _ (a b c d h j : ℕ) where

@@ -16,8 +16,8 @@ use Rattle.format.specs.Provider.{Rows, definitions, maps, templates, Ta
 use Rattle.format.specs.Crim.{Crim, header, describedAt, providersOf, crim}
 use Rattle.format.specs.Lists.{or-else, lastOf, kept, Owned, ownedTables, listOf}
 use Rattle.format.specs.Definition.{step}
-use Rattle.format.specs.Listed.{owned}
-use Rattle.format.specs.Rested.{kind-cases}
+use Rattle.format.specs.theorems.Listed.{owned}
+use Rattle.format.specs.theorems.Rested.{kind-cases}
 use Rattle.format.specs.declared.Header.{Header}
 use Rattle.format.specs.declared.CrimHeader.{CrimHeader}
 use Rattle.format.specs.declared.Guid.{Guid}

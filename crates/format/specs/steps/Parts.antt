@@ -10,7 +10,7 @@ use Rattle.blob.specs.Laid.{flat}
 use Rattle.format.specs.Area.{PROVIDERS, DESCRIPTORS, UNKNOWN2, TABLES, DEFINITIONS, EVENTS, MAPS, ENTRIES, UNKNOWN, rows, width, none, of, more}
 use Rattle.format.specs.Provider.{Table, Provider}
 use Rattle.format.specs.Lists.{providerWords, descriptorWords, unknown2Words, tableWords, definitionWords, eventWords, mapList, mapEntryWords, templateWords, unknownWords, kept, unknowns, after, definitionsIn, eventsIn, mapsIn, templatesIn}
-use Rattle.format.specs.Needs.{entryCount}
+use Rattle.format.specs.steps.Needs.{entryCount}
 use Rattle.format.specs.declared.Walk.{Walk}
 
 -- before the first entry

@@ -46,9 +46,9 @@ pub record Enums : Type 1 where
   pub descriptor : Exactly descriptorTold format.Provider.descriptorRead
   pub end : {A : Type 0} (told : A → ℕ) → Keeps endTold told (format.Region.endRead told)
   pub map : Keeps mapTold (λ m. m .map) format.Map.mapRead
-  pub maps : Keeps entriesTold (λ ms. capped (format.Needs.entryCount ms)) format.Needs.mapsRead
-  pub table : Keeps entriesTold (λ t. capped (format.Needs.entryCount (format.Lists.mapsIn (t .rows)))) format.Needs.tableRead
-  pub element : Keeps entriesTold (λ e. capped (format.Needs.entriesOf e)) format.Needs.elementRead
+  pub maps : Keeps entriesTold (λ ms. capped (format.steps.Needs.entryCount ms)) format.steps.Needs.mapsRead
+  pub table : Keeps entriesTold (λ t. capped (format.steps.Needs.entryCount (format.Lists.mapsIn (t .rows)))) format.steps.Needs.tableRead
+  pub element : Keeps entriesTold (λ e. capped (format.steps.Needs.entriesOf e)) format.steps.Needs.elementRead
   pub guids : Keeps guidsTold (λ gs. length gs) guidsFound
 
 pub enums : Enums
@@ -64,9 +64,9 @@ enums =
       descriptor = exactly descriptorTold (λ a. refl) (λ q. refl) (λ r. elim r [ format.declared.DescriptorRead.the-variants.Descriptor a ↦ refl | format.declared.DescriptorRead.the-variants.Refused q ↦ refl ]);
       end = λ told. keeps endTold told format.declared.EndRead.the-variants.End (exactly endTold (λ a. refl) (λ q. refl) (λ r. elim r [ format.declared.EndRead.the-variants.End a ↦ refl | format.declared.EndRead.the-variants.Refused q ↦ refl ]));
       map = keeps mapTold (λ m. m .map) format.declared.MapRead.the-variants.Map (exactly mapTold (λ a. refl) (λ q. refl) (λ r. elim r [ format.declared.MapRead.the-variants.Map a ↦ refl | format.declared.MapRead.the-variants.Refused q ↦ refl ]));
-      maps = keeps entriesTold (λ ms. capped (format.Needs.entryCount ms)) format.declared.EntriesRead.the-variants.Entries (exactly entriesTold (λ a. refl) (λ q. refl) (λ r. elim r [ format.declared.EntriesRead.the-variants.Entries a ↦ refl | format.declared.EntriesRead.the-variants.Refused q ↦ refl ]));
-      table = keeps entriesTold (λ t. capped (format.Needs.entryCount (format.Lists.mapsIn (t .rows)))) format.declared.EntriesRead.the-variants.Entries (exactly entriesTold (λ a. refl) (λ q. refl) (λ r. elim r [ format.declared.EntriesRead.the-variants.Entries a ↦ refl | format.declared.EntriesRead.the-variants.Refused q ↦ refl ]));
-      element = keeps entriesTold (λ e. capped (format.Needs.entriesOf e)) format.declared.EntriesRead.the-variants.Entries (exactly entriesTold (λ a. refl) (λ q. refl) (λ r. elim r [ format.declared.EntriesRead.the-variants.Entries a ↦ refl | format.declared.EntriesRead.the-variants.Refused q ↦ refl ]));
+      maps = keeps entriesTold (λ ms. capped (format.steps.Needs.entryCount ms)) format.declared.EntriesRead.the-variants.Entries (exactly entriesTold (λ a. refl) (λ q. refl) (λ r. elim r [ format.declared.EntriesRead.the-variants.Entries a ↦ refl | format.declared.EntriesRead.the-variants.Refused q ↦ refl ]));
+      table = keeps entriesTold (λ t. capped (format.steps.Needs.entryCount (format.Lists.mapsIn (t .rows)))) format.declared.EntriesRead.the-variants.Entries (exactly entriesTold (λ a. refl) (λ q. refl) (λ r. elim r [ format.declared.EntriesRead.the-variants.Entries a ↦ refl | format.declared.EntriesRead.the-variants.Refused q ↦ refl ]));
+      element = keeps entriesTold (λ e. capped (format.steps.Needs.entriesOf e)) format.declared.EntriesRead.the-variants.Entries (exactly entriesTold (λ a. refl) (λ q. refl) (λ r. elim r [ format.declared.EntriesRead.the-variants.Entries a ↦ refl | format.declared.EntriesRead.the-variants.Refused q ↦ refl ]));
       guids = keeps guidsTold (λ gs. length gs) format.declared.GuidsFound.the-variants.Given (exactly guidsTold (λ a. refl) (λ q. refl) (λ r. elim r [ format.declared.GuidsFound.the-variants.Given a ↦ refl | format.declared.GuidsFound.the-variants.Refused q ↦ refl ]));
     }
 
@@ -74,7 +74,7 @@ enums =
 number-told : (p : format.Lists.Entry → Bool) (n : ℕ) (ts : List format.Lists.Entry) → templateTold (numbered (position p n ts)) ≡ done (position p n ts)
 unfolding position
 number-told p n [] = refl
-number-told p n (t ∷ ts) = format.Grows.choose-either (p t) (λ ns. templateTold (numbered ns) ≡ done ns) refl (number-told p (suc n) ts)
+number-told p n (t ∷ ts) = format.theorems.Grows.choose-either (p t) (λ ns. templateTold (numbered ns) ≡ done ns) refl (number-told p (suc n) ts)
 
 offset-by : (a b : Bool) (ns : List ℕ) → templateTold (numbered ns) ≡ done ns → templateTold (choose a (choose b (numbered ns) (format.declared.TemplateFound.the-variants.Refused (own 10))) (format.declared.TemplateFound.the-variants.Refused (own 8)))
     ≡ choose a (choose b (done ns) (refused (own 10))) (refused (own 8))

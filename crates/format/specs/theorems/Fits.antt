@@ -17,11 +17,11 @@ use Rattle.format.specs.Map.{Mapped}
 use Rattle.format.specs.Provider.{Rows, Table, Provider}
 use Rattle.format.specs.Lists.{Entry, providerWords, descriptorWords, unknown2Words, definitionWords, eventWords, mapEntryWords, templateWords, unknownWords, kept, unknowns, Owned, ownedTables, ownedUnknowns, after, tableEntries, definitionsIn, eventsIn, mapsIn, templatesIn, mapList, lists}
 use Rattle.format.specs.Answer.{counted, capped}
-use Rattle.format.specs.Needs.{afterAll, of-tables, entriesIn, has, needsAll}
-use Rattle.format.specs.Parts.{start, fits, behindAll, parts, passedAll}
-use Rattle.format.specs.Grows.{behindAll-same, behindAll-length, passedAll-ahead}
-use Rattle.format.specs.Listed.{itemized, lists-itemized, First, first, number, listed}
-use Rattle.format.specs.Needed.{total, total-length, after-all, entries-count, counted-has, needed}
+use Rattle.format.specs.steps.Needs.{afterAll, of-tables, entriesIn, has, needsAll}
+use Rattle.format.specs.steps.Parts.{start, fits, behindAll, parts, passedAll}
+use Rattle.format.specs.theorems.Grows.{behindAll-same, behindAll-length, passedAll-ahead}
+use Rattle.format.specs.theorems.Listed.{itemized, lists-itemized, First, first, number, listed}
+use Rattle.format.specs.theorems.Needed.{total, total-length, after-all, entries-count, counted-has, needed}
 
 -- entries of so many words each
 pub data Wide (k : ℕ) : List Entry → Type 0 where

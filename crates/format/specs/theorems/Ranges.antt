@@ -19,8 +19,8 @@ use Rattle.format.specs.Lists.{Entry, or-else, lastOf, kept, Owned, owne
 use Rattle.format.specs.Entry.{TABLE-PROVIDER, TABLE-KIND, TABLE-FIRST, TABLE-COUNT}
 use Rattle.format.specs.Lookup.{wordOf, select, ownedBy}
 use Rattle.format.specs.Join.{those, the-first, eventsOf, templatesOf}
-use Rattle.format.specs.Listed.{owned}
-use Rattle.format.specs.Known.{All, Known, Sound, owned-known}
+use Rattle.format.specs.theorems.Listed.{owned}
+use Rattle.format.specs.theorems.Known.{All, Known, Sound, owned-known}
 
 -- a provider's tables of a kind, and its entries of them
 abbrev of-kind : ℕ → ℕ → Owned → Bool

@@ -1,0 +1,3 @@
+-- What lists need, and what each has of a table and of a provider.
+pub mod Needs
+pub mod Parts
