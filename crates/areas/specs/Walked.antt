@@ -13,7 +13,7 @@ use Rattle.format.specs.Crim.{describedAt}
 use Rattle.format.specs.steps.Parts.{fits, part, passed, parts, passedAll}
 use Rattle.format.specs.theorems.Grows.{passedAll-grows, passed-to, fits-before}
 use Rattle.format.specs.declared.Walk.{Walk}
-use Rattle.part.specs.Provided.{partBy, passedBy}
+use Rattle.provided.specs.Provided.{partBy, passedBy}
 
 module _ (s : List ℕ) (left at : ℕ) (h : 0 < left) (v : verdict (run (many describedAt (step 20) left at) s) ≡ verdicts.Fine) where
   pub next-provider : (p : Provider) × (run (describedAt at) s ≡ done p)

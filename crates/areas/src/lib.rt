@@ -64,7 +64,7 @@ fn fill(b: &[u8], n: u32, list: u32, area: &mut [u32])
     let mut p = Position::first(n);
     let mut w = start();
     while 0 < p.left {
-        w = part::fill(b, p.at, list, w, area);
+        w = provided::fill(b, p.at, list, w, area);
         p = p.next();
     }
 }

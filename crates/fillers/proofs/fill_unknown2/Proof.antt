@@ -1,0 +1,87 @@
+-- The invariant: what is left decides. A word is never refused, so the rest is fine.
+use Prim.Native.Nat.{ℕ, _+_, _*_, _≤_}
+use mathlib.Core.Path.{_≡_, refl, ap, sym, _∙_}
+use mathlib.Core.List.{List}
+use native.Mathlib.Omega.{arith}
+use borrow.Author.Needs.{needs}
+use lib.ListN.{length, set, length-set}
+use Rattle.blob.specs.declared.Verdict.the-variants as verdicts
+use Rattle.blob.specs.Reading.{run, number, many, verdict}
+use Rattle.blob.specs.Laws.{finds-number, many-fine, rest, rest-more, rest-none}
+use Rattle.blob.specs.Laid.{laid}
+use Rattle.format.specs.Definition.{step}
+use Rattle.format.specs.Lists.{unknown2Words}
+use Rattle.fillers.proofs.fill_unknown2.Statement.{statement}
+use Rattle.fillers.proofs.fill_unknown2.Tie as tie
+
+abbrev Inv-loop : tie.InvT-loop
+Inv-loop b start n area₀ at₀ left₀ to₀ area at left to =
+    (at + 4 * left ≤ length b)
+    × (to + left ≤ length area)
+    × (length area ≡ length area₀)
+    × (rest (number 4) (step 4) unknown2Words b area₀ n start 0 ≡ rest (number 4) (step 4) unknown2Words b area left at to)
+
+abbrev μ-loop : tie.MeasureT-loop
+μ-loop b start n area₀ at₀ left₀ to₀ area at left to = left
+
+loop-holds : tie.Need-loop-holds Inv-loop μ-loop
+loop-holds c = (search needs, search needs, refl, refl)
+
+word-requires : tie.Need-word-requires Inv-loop μ-loop
+word-requires c κs = search needs
+
+mul-area : tie.Need-mul-area Inv-loop μ-loop
+mul-area c = search needs
+
+slice-write-area : tie.Need-slice-write-area Inv-loop μ-loop
+slice-write-area c = search needs
+
+add-at : tie.Need-add-at Inv-loop μ-loop
+add-at c = search needs
+
+sub-left : tie.Need-sub-left Inv-loop μ-loop
+sub-left c = search needs
+
+add-to : tie.Need-add-to Inv-loop μ-loop
+add-to c = search needs
+
+loop-less : tie.Need-loop-less Inv-loop μ-loop
+loop-less c = search needs
+
+-- the words that are left are fine
+fine : (s : List ℕ) (n at : ℕ) → verdict (run (many (number 4) (step 4) n at) s) ≡ verdicts.Fine
+fine s = many-fine (number 4) (step 4) s (λ at. (_, finds-number 4 at s))
+
+loop-again : tie.Need-loop-again Inv-loop μ-loop
+unfolding laid
+loop-again c =
+    let l = c .before .before in (
+      omega arith,
+      simp length-set (omega arith),
+      simp length-set (l .loop .inv .2),
+      l .loop .inv .3 ∙ rest-more (number 4) (step 4) unknown2Words _ _ _ _ _ _ _ (ap (set (l .loop .area) (l .loop .to)) (c .word .ensures)) (c .before .loop-test .taken) (finds-number 4 _ _) (fine _ _ _),
+    )
+
+same-length : tie.Need-same-length Inv-loop μ-loop
+same-length c = search needs
+
+returns : tie.Need-returns Inv-loop μ-loop
+returns c = sym (c .before .loop .inv .3 ∙ rest-none (number 4) (step 4) unknown2Words _ _ _ _ _ (c .loop-test .left))
+
+pub fill-unknown2-spec : {M : Type 1} → statement M
+fill-unknown2-spec =
+    tie.close
+    (tie.spec
+    Inv-loop
+    μ-loop
+    loop-holds
+    word-requires
+    mul-area
+    slice-write-area
+    add-at
+    sub-left
+    add-to
+    loop-less
+    loop-again
+    same-length
+    returns)
