@@ -24,7 +24,7 @@ those p (a ∷ vs) = choose (p a) (a ∷ those p vs) (those p vs)
 abbrev pub the-first : {A : Type 0} → (A → Bool) → List A → List A
 the-first p vs = take 1 (those p vs)
 
--- a provider's events and templates: the records of its EVNT and of its TTBL
+-- a provider's events and templates: the records of the EVNT and of the TTBL that it keeps
 abbrev pub eventsOf : Provider → List Event
 eventsOf p = flat (λ t. eventsIn (t .rows)) (lastOf EVNT (p .elements))
 
