@@ -50,15 +50,9 @@ fn write_row(to: &mut impl Write, number: usize, blob: &[u8], answer: &Answer) -
         answer.code, answer.field
     )?;
     write!(to, "; place = {}; first = {}", answer.place, answer.first)?;
-    write!(to, "; second = {}; counts = record {{", answer.second)?;
-    for (name, count) in NAMES.iter().zip(answer.counts()) {
-        write!(
-            to,
-            "{} {name} = {count}",
-            if *name == NAMES[0] { "" } else { ";" }
-        )?;
-    }
-    write!(to, " }} }}; lists = ")?;
+    write!(to, "; second = {}; counts = ", answer.second)?;
+    write_list(to, &answer.counts())?;
+    write!(to, " }}; lists = ")?;
     if answer.code == 0 {
         for list in &answer.lists {
             write!(to, "(")?;
@@ -68,20 +62,6 @@ fn write_row(to: &mut impl Write, number: usize, blob: &[u8], answer: &Answer) -
     }
     writeln!(to, "[] }}\nunfolding found\nrow-{number} = refl")
 }
-
-/// The fields of the definition's counts, in list order.
-const NAMES: [&str; 10] = [
-    "providers",
-    "descriptors",
-    "unknown2",
-    "tables",
-    "definitions",
-    "events",
-    "maps",
-    "entries",
-    "templates",
-    "unknown",
-];
 
 fn write_list<N: std::fmt::Display>(to: &mut impl Write, numbers: &[N]) -> io::Result<()> {
     for number in numbers {

@@ -2,17 +2,21 @@
 use Prim.Native.Nat.{ℕ}
 use mathlib.Core.Path.{_≡_, refl}
 use mathlib.Core.Bool.{true, false}
-use mathlib.Core.List.{List, [], _∷_, _++_}
-use lib.ListN.{replicate}
+use mathlib.Core.List.{List, [], _∷_, _++_, map}
+use lib.ListN.{length, replicate}
 use Rattle.blob.specs.Reading.{Outcome, done, refused}
 use Rattle.blob.specs.Laid.{laid, flat}
 use Rattle.format.specs.Table.{CHAN, LEVL}
-use Rattle.format.specs.Provider.{definitions, templates, Element, table, unknown}
-use Rattle.format.specs.Area.{MAPS, rows, more}
-use Rattle.format.specs.Lists.{Entry, lastOf, kept}
+use Rattle.format.specs.Entry.{TABLE-FIRST}
+use Rattle.format.specs.Map.{Mapped}
+use Rattle.format.specs.Provider.{Rows, definitions, events, maps, templates, Element, table, unknown}
+use Rattle.format.specs.Area.{MAPS, rows, none, more}
+use Rattle.format.specs.Lists.{Entry, Owned, lastOf, kept, mapList, tableEntries}
 use Rattle.format.specs.Answer.{areas, filled, moderate, own, too-small, with-room}
-use Rattle.format.specs.Lookup.{alike, among, byKey, byOffset, counts-fit, entriesFrom, guidsHeld, guidsOf, once, position, select, tableFits, tablesFit}
+use Rattle.format.specs.Lookup.{alike, among, byKey, byOffset, counts-fit, entriesFrom, guidsHeld, guidsOf, once, position, select, tableFits, tablesFit, wordOf}
 use Rattle.format.specs.Handle.{shown}
+use Rattle.format.specs.declared.Event.{Event}
+use Rattle.format.specs.declared.MapEntry.{MapEntry}
 use Rattle.format.specs.declared.Key.{Key}
 use Rattle.format.specs.declared.TemplateFound.the-variants as template
 
@@ -37,6 +41,34 @@ last-kept : kept (a-table LEVL 10 ∷ a-table CHAN 20 ∷ unknown (record { sign
     ∷ []
 unfolding lastOf flat
 last-kept = refl
+
+-- the first entries of tables, each among those of its own list: of a second MAPS behind two maps, of a second EVNT behind one event, and
+-- of a VMAP behind two map entries
+abbrev a-map : ℕ → List MapEntry → Mapped
+a-map k es =
+    record {
+      map = record { kind = k; signature = 0; offset = 0; size = 0; string = 0; name = record { start = 0; units = 0; ended = false }; count = length es; start = 0; length = 0 };
+      entries = es;
+    }
+
+abbrev an-event : Event
+an-event =
+    record { identifier = 0; version = 0; channel = 0; level = 0; opcode = 0; task = 0; low = 0; high = 0; message = 0; template = 0; «opcode_offset» = 0; «level_offset» = 0; «task_offset» = 0; «unknown_count» = 0; «unknown_offset» = 0; flags = 0 }
+
+abbrev owned : Rows → Owned
+owned rs = record { provider = 0; table = record { kind = 0; offset = 0; size = 0; extra = 0; rows = rs; start = 0; length = 0 } }
+
+first-entries : map (wordOf TABLE-FIRST) (tableEntries none (
+    owned (events (an-event ∷ [])) ∷ owned (maps (a-map 1 [] ∷ a-map 2 [] ∷ [])) ∷ owned (events []) ∷ owned (maps []) ∷ owned (templates []) ∷ []))
+    ≡ 0 ∷ 0 ∷ 1 ∷ 2 ∷ 0 ∷ []
+unfolding tableEntries
+first-entries = refl
+
+first-map-entries : map (wordOf 7) (mapList 5 (
+    a-map 1 (record { identifier = 1; message = 2 } ∷ record { identifier = 3; message = 4 } ∷ []) ∷ a-map 2 [] ∷ a-map 1 [] ∷ []))
+    ≡ 5 ∷ 0 ∷ 7 ∷ []
+unfolding mapList
+first-map-entries = refl
 
 -- one provider with GUID 1 2 3 4, an EVNT and a TTBL; three events with one key, of which the last two have a template; three templates,
 -- two of them at 76
