@@ -13,7 +13,7 @@ use Rattle.blob.specs.Places.{Each}
 use Rattle.blob.specs.Reading.{choose}
 use Rattle.blob.specs.declared.Verdict.{Verdict}
 use Rattle.blob.specs.declared.Verdict.the-variants as verdicts
-use Rattle.format.specs.Area.{Row, rows, place}
+use Rattle.format.specs.Area.{Row, rows, AREAS, place}
 use Rattle.format.specs.Answer.{too-small, capped, moderate, areas}
 use Rattle.format.specs.steps.Needs.{plus, modest}
 use Rattle.format.specs.Table.{kindList}
@@ -52,16 +52,16 @@ words-most n w h g = let l : n ≤ 4294967295 = omega arith in mul-le-mul l g
 
 -- the rows of kinds
 pub kind-row : (k : ℕ) → 1 ≤ k → k ≤ 8
-    → getD (10 ∷ 4 ∷ 5 ∷ 4 ∷ 4 ∷ 6 ∷ 4 ∷ 4 ∷ 8 ∷ []) k 0 ≡ place (kindList k)
+    → getD (AREAS ∷ 4 ∷ 5 ∷ 4 ∷ 4 ∷ 6 ∷ 4 ∷ 4 ∷ 8 ∷ []) k 0 ≡ place (kindList k)
 kind-row k h g =
-    first (λ i. getD (10 ∷ 4 ∷ 5 ∷ 4 ∷ 4 ∷ 6 ∷ 4 ∷ 4 ∷ 8 ∷ []) i 0 ≡ place (kindList i)) 9 (refl, (refl, (refl, (refl, (refl, (refl, (refl, (refl, (refl, tt))))))))) k (omega arith)
+    first (λ i. getD (AREAS ∷ 4 ∷ 5 ∷ 4 ∷ 4 ∷ 6 ∷ 4 ∷ 4 ∷ 8 ∷ []) i 0 ≡ place (kindList i)) 9 (refl, (refl, (refl, (refl, (refl, (refl, (refl, (refl, (refl, tt))))))))) k (omega arith)
 
-pub kind-row-most : (k : ℕ) → 1 ≤ k → k ≤ 8 → place (kindList k) < 10
+pub kind-row-most : (k : ℕ) → 1 ≤ k → k ≤ 8 → place (kindList k) < AREAS
 kind-row-most k h g = go k h g
   where
-    go : (k : ℕ) → 1 ≤ k → k ≤ 8 → place (kindList k) < 10
+    go : (k : ℕ) → 1 ≤ k → k ≤ 8 → place (kindList k) < AREAS
     go zero h g = absurd (omega arith)
-    go (suc k) h g = first (λ i. place (kindList (suc i)) < 10) 8 (omega arith, (omega arith, (omega arith, (omega arith, (omega arith, (omega arith, (omega arith, (omega arith, tt)))))))) k (omega arith)
+    go (suc k) h g = first (λ i. place (kindList (suc i)) < AREAS) 8 (omega arith, (omega arith, (omega arith, (omega arith, (omega arith, (omega arith, (omega arith, (omega arith, tt)))))))) k (omega arith)
 
 -- row by row: what is left decides
 pub short-step : (rs : List Row) (cs ks : List ℕ) (i : ℕ) → i < length rs → i < length cs → i < length ks
@@ -129,29 +129,29 @@ modest-set (x ∷ xs) (suc i) n m = (m .0, modest-set xs i n (m .1))
 pub modest-at : (xs : List ℕ) (i : ℕ) → modest xs → getD xs i 0 ≤ 65537
 modest-at xs i m = each-most xs 65537 m i
 
-module _ (cs : List ℕ) (c10 : length cs ≡ 10) (i : ℕ) where
-  module _ (ks : List ℕ) (k10 : length ks ≡ 10) where
-    pub room-more : i < 10 → getD ks i 0 ≤ getD cs i 0
+module _ (cs : List ℕ) (cs-rows : length cs ≡ AREAS) (i : ℕ) where
+  module _ (ks : List ℕ) (ks-rows : length ks ≡ AREAS) where
+    pub room-more : i < AREAS → getD ks i 0 ≤ getD cs i 0
         → short (drop i rows) (drop i cs) (drop i ks) ≡ short (drop (i + 1) rows) (drop (i + 1) cs) (drop (i + 1) ks)
     room-more h g = short-step rows cs ks i (omega arith) (omega arith) (omega arith) ∙ rw (le-leb _ _ g)
 
-    pub room-stop : i < 10 → getD cs i 0 < getD ks i 0 → short (drop i rows) (drop i cs) (drop i ks) ≡ verdicts.Refused (too-small (getD numbers i 0) (getD cs i 0))
+    pub room-stop : i < AREAS → getD cs i 0 < getD ks i 0 → short (drop i rows) (drop i cs) (drop i ks) ≡ verdicts.Refused (too-small (getD numbers i 0) (getD cs i 0))
     room-stop h g = short-step rows cs ks i (omega arith) (omega arith) (omega arith) ∙ rw (lt-leb _ _ g)
 
-    pub room-end : 10 ≤ i → short (drop i rows) (drop i cs) (drop i ks) ≡ verdicts.Fine
+    pub room-end : AREAS ≤ i → short (drop i rows) (drop i cs) (drop i ks) ≡ verdicts.Fine
     unfolding short
     room-end h = rw (drop-of-length-le rows {i = i} (omega arith))
 
   module _ (sum words : ℕ) where
-    pub lent-more : i < 10 → getD cs i 0 ≤ 65536 → (more : ℕ) → more ≡ getD cs i 0 * getD widths i 0
+    pub lent-more : i < AREAS → getD cs i 0 ≤ 65536 → (more : ℕ) → more ≡ getD cs i 0 * getD widths i 0
         → (moderate (drop i cs) && leb (sum + areas (drop i rows) (drop i cs)) words)
         ≡ (moderate (drop (i + 1) cs) && leb (sum + more + areas (drop (i + 1) rows) (drop (i + 1) cs)) words)
     lent-more h g more e =
         rw (e, moderate-step cs i (omega arith), le-leb _ _ g, areas-step rows cs i (omega arith) (omega arith), add-assoc sum (getD cs i 0 * getD widths i 0) (areas (drop (i + 1) rows) (drop (i + 1) cs)))
 
-    pub lent-stop : i < 10 → 65536 < getD cs i 0 → (moderate (drop i cs) && leb (sum + areas (drop i rows) (drop i cs)) words) ≡ false
+    pub lent-stop : i < AREAS → 65536 < getD cs i 0 → (moderate (drop i cs) && leb (sum + areas (drop i rows) (drop i cs)) words) ≡ false
     lent-stop h g = rw (moderate-step cs i (omega arith), lt-leb _ _ g)
 
-    pub lent-end : 10 ≤ i → (moderate (drop i cs) && leb (sum + areas (drop i rows) (drop i cs)) words) ≡ leb sum words
+    pub lent-end : AREAS ≤ i → (moderate (drop i cs) && leb (sum + areas (drop i rows) (drop i cs)) words) ≡ leb sum words
     unfolding moderate areas
     lent-end h = rw (drop-of-length-le cs {i = i} (omega arith), add-zero)

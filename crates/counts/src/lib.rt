@@ -34,7 +34,7 @@ const ROWS: [usize; KINDS] = [
 
 pub fn row_of(kind: u32) -> usize
     requires { ⌜ (1 ≤ kind) × (kind ≤ 8) ⌝ }
-    ensures { λ r. ⌜ (r ≡ area.place (kindList kind)) × (r < 10) ⌝ }
+    ensures { λ r. ⌜ (r ≡ area.place (kindList kind)) × (r < area.AREAS) ⌝ }
 {
     ROWS[kind as usize]
 }
@@ -65,15 +65,15 @@ pub fn add(all: [u32; AREAS], more: [u32; AREAS]) -> [u32; AREAS]
 }
 
 // The words of an entry, and the number of its list, by the list's row.
-pub fn width_of(row: usize) -> u32
-    requires { ⌜ row < 10 ⌝ }
+pub fn width_of(row: usize) -> usize
+    requires { ⌜ row < area.AREAS ⌝ }
     ensures { λ r. ⌜ (r ≡ getD widths row 0) × (r ≤ 16) ⌝ }
 {
     WORDS[row]
 }
 
 pub fn number_of(row: usize) -> u32
-    requires { ⌜ row < 10 ⌝ }
+    requires { ⌜ row < area.AREAS ⌝ }
     ensures { λ r. ⌜ r ≡ getD numbers row 0 ⌝ }
 {
     NUMBERS[row]
@@ -81,10 +81,10 @@ pub fn number_of(row: usize) -> u32
 
 // The words of so many entries of a list.
 pub fn words_of(entries: u32, row: usize) -> usize
-    requires { ⌜ row < 10 ⌝ }
+    requires { ⌜ row < area.AREAS ⌝ }
     ensures { λ r. ⌜ (r ≡ entries * getD widths row 0) × (r ≤ 68719476720) ⌝ }
 {
-    (entries as usize) * (width_of(row) as usize)
+    (entries as usize) * width_of(row)
 }
 
 // Whether the capacities, and so many lent words, will do.
@@ -105,7 +105,7 @@ pub fn lent_enough(c: [u32; AREAS], words: usize) -> bool
 
 // Where the area of a row starts: those before it end there.
 pub fn area_at(c: [u32; AREAS], row: usize) -> usize
-    requires { ⌜ row < 10 ⌝ }
+    requires { ⌜ row < area.AREAS ⌝ }
     ensures { λ r. ⌜ (r ≡ answer.areas area.rows (take row c)) × (r ≤ 687194767200) ⌝ }
 {
     let mut sum = 0;

@@ -59,6 +59,10 @@ rows =
     ∷ row UNKNOWN 4
     ∷ []
 
+-- how many they are
+abbrev pub AREAS : ℕ
+AREAS = 10
+
 -- which row is a list's, by its number
 abbrev pub placeIn : List Row → ℕ → ℕ
 placeIn [] l = 0

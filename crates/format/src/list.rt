@@ -14,7 +14,18 @@ pub const NUMBERS: [u32; AREAS] = [
     UNKNOWN,
 ];
 
-pub const WORDS: [u32; AREAS] = [9, 3, 1, 9, 12, 16, 11, 2, 12, 4];
+pub const WORDS: [usize; AREAS] = [
+    width::PROVIDERS,
+    width::DESCRIPTORS,
+    width::UNKNOWN2,
+    width::TABLES,
+    width::DEFINITIONS,
+    width::EVENTS,
+    width::MAPS,
+    width::ENTRIES,
+    width::TEMPLATES,
+    width::UNKNOWN,
+];
 
 // The numbers.
 pub const PROVIDERS: u32 = 1;
@@ -58,6 +69,29 @@ pub mod row {
     pub const TEMPLATES: usize = 8;
 
     pub const UNKNOWN: usize = 9;
+}
+
+// The words of a list's entries.
+pub mod width {
+    pub const PROVIDERS: usize = 9;
+
+    pub const DESCRIPTORS: usize = 3;
+
+    pub const UNKNOWN2: usize = 1;
+
+    pub const TABLES: usize = 9;
+
+    pub const DEFINITIONS: usize = 12;
+
+    pub const EVENTS: usize = 16;
+
+    pub const MAPS: usize = 11;
+
+    pub const ENTRIES: usize = 2;
+
+    pub const TEMPLATES: usize = 12;
+
+    pub const UNKNOWN: usize = 4;
 }
 
 // The most entries that a list can be lent.

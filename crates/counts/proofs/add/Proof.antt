@@ -2,6 +2,7 @@
 use Prim.Native.Nat.{_-_, _≤_}
 use mathlib.Core.Path.{_≡_, refl, sym, _∙_}
 use lib.ListN.{length, length-set}
+use Rattle.format.specs.Area.{AREAS}
 use Rattle.format.specs.steps.Needs.{plus, modest}
 use Rattle.counts.specs.Short.{plusFrom, plus-step, plus-end, modest-set, modest-at}
 use borrow.Author.Needs.{needs}
@@ -11,10 +12,10 @@ use Rattle.counts.proofs.add.Tie as tie
 use Rattle.bounds.proofs.sum.Reads as sum-reads
 
 abbrev Inv-loop : tie.InvT-loop
-Inv-loop more sums₀ i₀ sums i = (i ≤ 10) × (length sums ≡ 10) × (length more ≡ 10) × modest sums × (plusFrom i sums more ≡ plus sums₀ more)
+Inv-loop more sums₀ i₀ sums i = (i ≤ AREAS) × (length sums ≡ AREAS) × (length more ≡ AREAS) × modest sums × (plusFrom i sums more ≡ plus sums₀ more)
 
 abbrev μ-loop : tie.MeasureT-loop
-μ-loop more sums₀ i₀ sums i = 10 - i
+μ-loop more sums₀ i₀ sums i = AREAS - i
 
 loop-holds : tie.Need-loop-holds Inv-loop μ-loop
 loop-holds c = (omega arith, omega arith, omega arith, c .pre, unfold plusFrom in refl)

@@ -4,7 +4,7 @@ use mathlib.Core.Path.{_≡_, refl, sym, _∙_}
 use mathlib.Core.Bool.{_&&_}
 use lib.Dec.{leb}
 use lib.ListN.{length, drop}
-use Rattle.format.specs.Area.{rows}
+use Rattle.format.specs.Area.{rows, AREAS}
 use Rattle.format.specs.Answer.{moderate, areas}
 use native.Mathlib.Nat.{zero-add}
 use Rattle.counts.specs.Short.{lent-more, lent-stop, lent-end}
@@ -16,13 +16,13 @@ use Rattle.counts.proofs.words_of.Reads as words-of-reads
 
 abbrev Inv-loop : tie.InvT-loop
 Inv-loop words c sum₀ i₀ sum i =
-    (i ≤ 10)
-    × (length c ≡ 10)
+    (i ≤ AREAS)
+    × (length c ≡ AREAS)
     × (sum ≤ i * 68719476720)
     × ((moderate (drop i c) && leb (sum + areas (drop i rows) (drop i c)) words) ≡ (moderate c && leb (areas rows c) words))
 
 abbrev μ-loop : tie.MeasureT-loop
-μ-loop words c sum₀ i₀ sum i = 10 - i
+μ-loop words c sum₀ i₀ sum i = AREAS - i
 
 loop-holds : tie.Need-loop-holds Inv-loop μ-loop
 loop-holds c = (omega arith, omega arith, omega arith, rw zero-add)

@@ -2,7 +2,7 @@
 use Prim.Native.Nat.{_-_, _≤_}
 use mathlib.Core.Path.{_≡_, refl, sym, _∙_}
 use lib.ListN.{length, drop}
-use Rattle.format.specs.Area.{rows}
+use Rattle.format.specs.Area.{rows, AREAS}
 use Rattle.counts.specs.Short.{short, room-more, room-stop, room-end}
 use borrow.Author.Needs.{needs}
 use native.Mathlib.Omega.{arith}
@@ -11,10 +11,10 @@ use Rattle.counts.proofs.room.Tie as tie
 use Rattle.counts.proofs.number_of.Reads as number-of-reads
 
 abbrev Inv-loop : tie.InvT-loop
-Inv-loop c needs i₀ i = (i ≤ 10) × (length c ≡ 10) × (length needs ≡ 10) × (short (drop i rows) (drop i c) (drop i needs) ≡ short rows c needs)
+Inv-loop c needs i₀ i = (i ≤ AREAS) × (length c ≡ AREAS) × (length needs ≡ AREAS) × (short (drop i rows) (drop i c) (drop i needs) ≡ short rows c needs)
 
 abbrev μ-loop : tie.MeasureT-loop
-μ-loop c needs i₀ i = 10 - i
+μ-loop c needs i₀ i = AREAS - i
 
 loop-holds : tie.Need-loop-holds Inv-loop μ-loop
 loop-holds c = search needs
