@@ -183,14 +183,6 @@ pub struct Unknown {
     pub size: u32,
 }
 
-// How far the filling of a list has come: the provider's number, how many entries were written before in lists that its entries point
-// into, and where in the list's area the next entry goes.
-pub struct Walk {
-    pub number: u32,
-    pub before: [u32; AREAS],
-    pub to: usize,
-}
-
 // What checking the providers finds: how many entries each list needs for them, where each number stops rising at 65,537.
 pub struct Needed {
     pub verdict: Verdict,

@@ -18,8 +18,8 @@ use Rattle.format.specs.Provider.{Rows, Table, Provider}
 use Rattle.format.specs.Lists.{Entry, providerWords, descriptorWords, unknown2Words, definitionWords, eventWords, mapEntryWords, templateWords, unknownWords, kept, unknowns, Owned, ownedTables, ownedUnknowns, after, tableEntries, definitionsIn, eventsIn, mapsIn, templatesIn, mapList, lists}
 use Rattle.format.specs.Answer.{counted, capped}
 use Rattle.format.specs.steps.Needs.{afterAll, of-tables, entriesIn, has, needsAll}
-use Rattle.format.specs.steps.Parts.{start, fits, behindAll, parts, passedAll}
-use Rattle.format.specs.theorems.Grows.{behindAll-same, behindAll-length, passedAll-ahead}
+use Rattle.format.specs.steps.Parts.{Few, Room, behindAll, parts, passedAll}
+use Rattle.format.specs.theorems.Grows.{behindAll-same, behindAll-length, passedAll-tables}
 use Rattle.format.specs.theorems.Listed.{itemized, lists-itemized, First, first, number, listed}
 use Rattle.format.specs.theorems.Needed.{total, total-length, after-all, entries-count, counted-has, needed}
 
@@ -91,12 +91,8 @@ lists-wide ps =
       ),
     ))
 
-pub parts-wide : (ps : List Provider) (i : ℕ) → i < length rows → length (parts (number i) start ps) ≡ words i * length (getD (lists ps) i [])
+pub parts-wide : (ps : List Provider) (i : ℕ) → i < length rows → length (parts (number i) 0 none ps) ≡ words i * length (getD (lists ps) i [])
 parts-wide ps i h = ap length (sym (listed ps i h)) ∙ wide-length (lists-wide ps i h)
-
--- no list has more entries than a capacity can be
-abbrev pub Few : List ℕ → Type 0
-Few ns = (i : ℕ) → getD ns i 0 ≤ 65536
 
 -- needs that are few are what is needed
 pub few-uncapped : (ns : List ℕ) → Few (map capped ns) → map capped ns ≡ ns
@@ -212,8 +208,8 @@ module _ (ps : List Provider) (f : Few (counted (lists ps))) where
           rw (behindAll-same l e g none (tables ps))
           (each-few none (none-few, (none-few, (none-few, (none-few, (none-few, (none-few, (none-few, (none-few, (none-few, (none-few, tt)))))))))))
 
-  -- the walk over all providers for a list
-  pub walk-fits : (i : ℕ) → i < length rows → fits (passedAll (number i) start ps) (words i * length (getD (lists ps) i []))
-  walk-fits i h =
-      let n = few-of 0 (λ (p : Provider). p ∷ []) refl in
-      rw (passedAll-ahead (number i) start ps) (omega (arith, parts-wide ps i h), omega (arith, n, ap length (flat-single ps)), few-behind (number i), behindAll-length (number i) none (tables ps))
+  -- a list has room in an area of its words, and what is written behind it in each list is few
+  pub list-room : (i : ℕ) → i < length rows → (area : List ℕ) → words i * length (getD (lists ps) i []) ≤ length area
+      → Room (parts (number i) 0 none ps) (passedAll (number i) none ps) area
+  list-room i h area r =
+      rw (passedAll-tables (number i) none ps) (omega (arith, parts-wide ps i h), few-behind (number i), behindAll-length (number i) none (tables ps))

@@ -4,7 +4,6 @@ use Prim.Native.Nat.{ℕ, zero, suc, _+_, _<_}
 use mathlib.Core.Path.{_≡_, refl, ap, sym, _∙_}
 use mathlib.Core.List.{List, [], _∷_, _++_, map, append-assoc}
 use native.Mathlib.Nat.{add-zero, add-assoc}
-use native.Mathlib.Numerals.{add-one}
 use native.Mathlib.Omega.{arith}
 use lib.ListN.{length, getD, length-set}
 use lib.Seq.{getD-set-same}
@@ -14,9 +13,8 @@ use Rattle.format.specs.Provider.{Rows, Table, Provider}
 use Rattle.format.specs.Lists.{Entry, providerWords, descriptorWords, unknown2Words, definitionWords, eventWords, mapEntryWords, templateWords, unknownWords, kept, unknowns, Owned, ownedTables, ownedUnknowns, tableEntries, definitionsIn, eventsIn, mapsIn, templatesIn, mapList, lists}
 use Rattle.format.specs.Area.{PROVIDERS, DESCRIPTORS, UNKNOWN2, TABLES, DEFINITIONS, EVENTS, MAPS, ENTRIES, TEMPLATES, UNKNOWN, rows, place, none, of, more}
 use Rattle.format.specs.steps.Needs.{entryCount, of-tables, entriesIn}
-use Rattle.format.specs.steps.Parts.{start, walked, walkedAll, tablePart, tableParts, part, passed, parts}
-use Rattle.format.specs.theorems.Grows.{walkedAll-ahead, behindAll-length}
-use Rattle.format.specs.declared.Walk.{Walk}
+use Rattle.format.specs.steps.Parts.{tablePart, tableParts, behind, behindAll, part, passed, parts}
+use Rattle.format.specs.theorems.Grows.{behindAll-length}
 
 abbrev pub owned : ℕ → List Table → List Owned
 owned n ts = map (λ t. record { provider = n; table = t }) ts
@@ -67,52 +65,47 @@ lists-itemized ps =
       owned-map templateWords templatesIn ps,
     )
 
--- What gives a provider's words and then those of the rest, from the walk behind it, gives the words that the walk stores.
-parts-by : (l : ℕ) (words : Walk → List Provider → List ℕ) → ((w : Walk) → words w [] ≡ [])
-    → ((w : Walk) (p : Provider) (ps : List Provider) → words w (p ∷ ps) ≡ part l w p ++ words (passed l w p) ps) → (w : Walk) (ps : List Provider) → words w ps ≡ parts l w ps
+-- What gives a provider's words and then those of the rest, with what is written behind it, gives the words that are stored.
+parts-by : (l : ℕ) (words : ℕ → List ℕ → List Provider → List ℕ) → ((n : ℕ) (b : List ℕ) → words n b [] ≡ [])
+    → ((n : ℕ) (b : List ℕ) (p : Provider) (ps : List Provider) → words n b (p ∷ ps) ≡ part l n b p ++ words (suc n) (passed l b p) ps)
+    → (n : ℕ) (b : List ℕ) (ps : List Provider) → words n b ps ≡ parts l n b ps
 unfolding parts
-parts-by l words none more w [] = none w
-parts-by l words none more w (p ∷ ps) = more w p ps ∙ ap (λ (r : List ℕ). part l w p ++ r) (parts-by l words none more (passed l w p) ps)
+parts-by l words none more n b [] = none n b
+parts-by l words none more n b (p ∷ ps) = more n b p ps ∙ ap (λ (r : List ℕ). part l n b p ++ r) (parts-by l words none more (suc n) (passed l b p) ps)
 
 -- words that do not go by what was before
-plain-tables : {B : Type 0} (l : ℕ) (words : B → List ℕ) (items : Rows → List B) → ((w : Walk) (t : Table) → flat words (items (t .rows)) ≡ tablePart l w t)
-    → (w : Walk) (ts : List Table) → flat words (flat (λ t. items (t .rows)) ts) ≡ tableParts l w ts
+plain-tables : {B : Type 0} (l : ℕ) (words : B → List ℕ) (items : Rows → List B) → ((n : ℕ) (b : List ℕ) (t : Table) → flat words (items (t .rows)) ≡ tablePart l n b t)
+    → (n : ℕ) (b : List ℕ) (ts : List Table) → flat words (flat (λ t. items (t .rows)) ts) ≡ tableParts l n b ts
 unfolding flat tableParts
-plain-tables l words items h w [] = refl
-plain-tables l words items h w (t ∷ ts) = flat-append words (items (t .rows)) _ ∙ rw (h w t, plain-tables l words items h (walked l w t) ts)
+plain-tables l words items h n b [] = refl
+plain-tables l words items h n b (t ∷ ts) = flat-append words (items (t .rows)) _ ∙ rw (h n b t, plain-tables l words items h n (behind l b t) ts)
 
-plain-parts : {B : Type 0} (l : ℕ) (words : B → List ℕ) (items : Provider → List B) → ((w : Walk) (p : Provider) → flat words (items p) ≡ part l w p)
-    → (w : Walk) (ps : List Provider) → flat (λ e. e) (map words (flat items ps)) ≡ parts l w ps
+plain-parts : {B : Type 0} (l : ℕ) (words : B → List ℕ) (items : Provider → List B) → ((n : ℕ) (b : List ℕ) (p : Provider) → flat words (items p) ≡ part l n b p)
+    → (n : ℕ) (b : List ℕ) (ps : List Provider) → flat (λ e. e) (map words (flat items ps)) ≡ parts l n b ps
 unfolding flat
-plain-parts l words items h w ps =
+plain-parts l words items h n b ps =
     flat-map (λ e. e) words (flat items ps)
-    ∙ parts-by l (λ w ps. flat words (flat items ps)) (λ w. refl) (λ w p ps. flat-append words (items p) (flat items ps) ∙ rw (h w p)) w ps
+    ∙ parts-by l (λ n b ps. flat words (flat items ps)) (λ n b. refl) (λ n b p ps. flat-append words (items p) (flat items ps) ∙ rw (h n b p)) n b ps
 
-table-parts : {B : Type 0} (l : ℕ) (words : B → List ℕ) (items : Rows → List B) → ((w : Walk) (t : Table) → flat words (items (t .rows)) ≡ tablePart l w t)
-    → ((w : Walk) (p : Provider) → tableParts l w (kept (p .elements)) ≡ part l w p) → (w : Walk) (ps : List Provider)
-    → flat (λ e. e) (map words (flat (of-tables items) ps)) ≡ parts l w ps
-table-parts l words items h g = plain-parts l words (of-tables items) (λ w p. plain-tables l words items h w (kept (p .elements)) ∙ g w p)
+table-parts : {B : Type 0} (l : ℕ) (words : B → List ℕ) (items : Rows → List B) → ((n : ℕ) (b : List ℕ) (t : Table) → flat words (items (t .rows)) ≡ tablePart l n b t)
+    → ((n : ℕ) (b : List ℕ) (p : Provider) → tableParts l n b (kept (p .elements)) ≡ part l n b p) → (n : ℕ) (b : List ℕ) (ps : List Provider)
+    → flat (λ e. e) (map words (flat (of-tables items) ps)) ≡ parts l n b ps
+table-parts l words items h g = plain-parts l words (of-tables items) (λ n b p. plain-tables l words items h n b (kept (p .elements)) ∙ g n b p)
 
--- list 4: a table's first entry goes by what the walk has written
-abbrev tablesFrom : Walk → List Owned → List ℕ
-tablesFrom w os = flat (λ e. e) (tableEntries (w .before) os)
+-- list 4: a table's first entry goes by what is written
+abbrev tablesFrom : List ℕ → List Owned → List ℕ
+tablesFrom b os = flat (λ e. e) (tableEntries b os)
 
-tables-then : (w : Walk) (ts : List Table) (os : List Owned) → tablesFrom w (owned (w .number) ts ++ os) ≡ tableParts TABLES w ts ++ tablesFrom (walkedAll TABLES w ts) os
-unfolding flat tableEntries tableParts tablePart walkedAll walked
-tables-then w [] os = refl
-tables-then w (t ∷ ts) os = ap (λ (r : List ℕ). tablePart TABLES w t ++ r) (tables-then (walked TABLES w t) ts os)
+tables-then : (n : ℕ) (b : List ℕ) (ts : List Table) (os : List Owned) → tablesFrom b (owned n ts ++ os) ≡ tableParts TABLES n b ts ++ tablesFrom (behindAll TABLES b ts) os
+unfolding flat tableEntries tableParts tablePart behindAll
+tables-then n b [] os = refl
+tables-then n b (t ∷ ts) os = ap (λ (r : List ℕ). tablePart TABLES n b t ++ r) (tables-then n (behind TABLES b t) ts os)
 
-tables-parts : (w : Walk) (ps : List Provider) → tablesFrom w (ownedTables (w .number) ps) ≡ parts TABLES w ps
-unfolding flat ownedTables tableEntries part passed
-tables-parts = parts-by TABLES (λ w ps. tablesFrom w (ownedTables (w .number) ps)) (λ w. refl) more
-  where
-    more : (w : Walk) (p : Provider) (ps : List Provider) → tablesFrom w (ownedTables (w .number) (p ∷ ps)) ≡ part TABLES w p ++ tablesFrom (passed TABLES w p) (ownedTables (passed TABLES w p .number) ps)
-    more w p ps =
-        let ts = kept (p .elements) in
-        let e : walkedAll TABLES w ts .number + 1 ≡ suc (w .number) = ap (λ (v : Walk). v .number + 1) (walkedAll-ahead TABLES w ts) ∙ add-one (w .number) in
-        rw e (tables-then w ts (ownedTables (suc (w .number)) ps))
+tables-parts : (n : ℕ) (b : List ℕ) (ps : List Provider) → tablesFrom b (ownedTables n ps) ≡ parts TABLES n b ps
+unfolding flat ownedTables tableEntries part
+tables-parts = parts-by TABLES (λ n b ps. tablesFrom b (ownedTables n ps)) (λ n b. refl) (λ n b p ps. tables-then n b (kept (p .elements)) (ownedTables (suc n) ps))
 
--- list 7: a map's first entry goes by the entries that the walk has passed
+-- list 7: a map's first entry goes by the entries of the maps before it
 abbrev mapsFrom : ℕ → List Mapped → List ℕ
 mapsFrom n ms = flat (λ e. e) (mapList n ms)
 
@@ -125,38 +118,33 @@ mapList-append n (m ∷ ms) ns = rw (mapList-append (n + length (m .entries)) ms
 more-here : (ns : List ℕ) (n : ℕ) → length ns ≡ length rows → of ENTRIES (more ENTRIES n ns) ≡ of ENTRIES ns + n
 more-here ns n h = getD-set-same ns (place ENTRIES) _ 0 (omega arith)
 
-maps-then : (w : Walk) (ts : List Table) (ms : List Mapped) → length (w .before) ≡ length rows
-    → mapsFrom (of ENTRIES (w .before)) (flat (λ t. mapsIn (t .rows)) ts ++ ms) ≡ tableParts MAPS w ts ++ mapsFrom (of ENTRIES (walkedAll MAPS w ts .before)) ms
-unfolding flat tableParts tablePart walkedAll walked
-maps-then w [] ms h = refl
-maps-then w (t ∷ ts) ms h =
+maps-then : (n : ℕ) (b : List ℕ) (ts : List Table) (ms : List Mapped) → length b ≡ length rows
+    → mapsFrom (of ENTRIES b) (flat (λ t. mapsIn (t .rows)) ts ++ ms) ≡ tableParts MAPS n b ts ++ mapsFrom (of ENTRIES (behindAll MAPS b ts)) ms
+unfolding flat tableParts tablePart behindAll
+maps-then n b [] ms h = refl
+maps-then n b (t ∷ ts) ms h =
     let rest = flat (λ (u : Table). mapsIn (u .rows)) ts in
-    let n = of ENTRIES (w .before) in
-    ap (mapsFrom n) (append-assoc (mapsIn (t .rows)) rest ms)
-    ∙ ap (flat (λ e. e)) (mapList-append n (mapsIn (t .rows)) (rest ++ ms))
-    ∙ flat-append (λ e. e) (mapList n (mapsIn (t .rows))) _
-    ∙ ap (λ k. tablePart MAPS w t ++ mapsFrom k (rest ++ ms)) (sym (more-here (w .before) (entryCount (mapsIn (t .rows))) h))
-    ∙ ap (λ (r : List ℕ). tablePart MAPS w t ++ r) (maps-then (walked MAPS w t) ts ms (length-set (w .before) _ _ ∙ h))
-    ∙ sym (append-assoc (tablePart MAPS w t) _ _)
+    let k = of ENTRIES b in
+    ap (mapsFrom k) (append-assoc (mapsIn (t .rows)) rest ms)
+    ∙ ap (flat (λ e. e)) (mapList-append k (mapsIn (t .rows)) (rest ++ ms))
+    ∙ flat-append (λ e. e) (mapList k (mapsIn (t .rows))) _
+    ∙ ap (λ m. tablePart MAPS n b t ++ mapsFrom m (rest ++ ms)) (sym (more-here b (entryCount (mapsIn (t .rows))) h))
+    ∙ ap (λ (r : List ℕ). tablePart MAPS n b t ++ r) (maps-then n (behind MAPS b t) ts ms (length-set b _ _ ∙ h))
+    ∙ sym (append-assoc (tablePart MAPS n b t) _ _)
 
-maps-parts : (w : Walk) (ps : List Provider) → length (w .before) ≡ length rows → mapsFrom (of ENTRIES (w .before)) (flat (of-tables mapsIn) ps) ≡ parts MAPS w ps
-unfolding flat parts part passed mapList
-maps-parts w [] h = refl
-maps-parts w (p ∷ ps) h =
-    maps-then w (kept (p .elements)) (flat (of-tables mapsIn) ps) h
-    ∙ ap (λ (r : List ℕ). part MAPS w p ++ r) (maps-parts (passed MAPS w p) ps (
-    ap (λ (v : Walk). length (v .before)) (walkedAll-ahead MAPS w (kept (p .elements))) ∙ behindAll-length MAPS (w .before) (kept (p .elements)) ∙ h))
+maps-parts : (n : ℕ) (b : List ℕ) (ps : List Provider) → length b ≡ length rows → mapsFrom (of ENTRIES b) (flat (of-tables mapsIn) ps) ≡ parts MAPS n b ps
+unfolding flat parts part mapList
+maps-parts n b [] h = refl
+maps-parts n b (p ∷ ps) h =
+    maps-then n b (kept (p .elements)) (flat (of-tables mapsIn) ps) h
+    ∙ ap (λ (r : List ℕ). part MAPS n b p ++ r) (maps-parts (suc n) (passed MAPS b p) ps (behindAll-length MAPS b (kept (p .elements)) ∙ h))
 
 -- list 10: an unknown element has its provider's number
-unknown-parts : (w : Walk) (ps : List Provider) → flat (λ e. e) (ownedUnknowns (w .number) ps) ≡ parts UNKNOWN w ps
-unfolding flat ownedUnknowns part passed
-unknown-parts = parts-by UNKNOWN (λ w ps. flat (λ e. e) (ownedUnknowns (w .number) ps)) (λ w. refl) more
-  where
-    more : (w : Walk) (p : Provider) (ps : List Provider)
-        → flat (λ e. e) (ownedUnknowns (w .number) (p ∷ ps)) ≡ part UNKNOWN w p ++ flat (λ e. e) (ownedUnknowns (passed UNKNOWN w p .number) ps)
-    more w p ps =
-        flat-append (λ e. e) (map (unknownWords (w .number)) (unknowns (p .elements))) _
-        ∙ rw (flat-map (λ e. e) (unknownWords (w .number)) (unknowns (p .elements)), add-one)
+unknown-parts : (n : ℕ) (b : List ℕ) (ps : List Provider) → flat (λ e. e) (ownedUnknowns n ps) ≡ parts UNKNOWN n b ps
+unfolding flat ownedUnknowns part
+unknown-parts =
+    parts-by UNKNOWN (λ n b ps. flat (λ e. e) (ownedUnknowns n ps)) (λ n b. refl)
+    (λ n b p ps. flat-append (λ e. e) (map (unknownWords n) (unknowns (p .elements))) _ ∙ rw (flat-map (λ e. e) (unknownWords n) (unknowns (p .elements))))
 
 -- what holds of the first n numbers holds of each of them
 abbrev pub First : (ℕ → Type 0) → ℕ → Type 0
@@ -172,28 +160,28 @@ first P (suc n) h (suc i) g = first (λ j. P (suc j)) n (h .1) i (omega arith)
 abbrev pub number : ℕ → ℕ
 number i = getD (map (λ r. r .number) rows) i 0
 
-pub listed : (ps : List Provider) (i : ℕ) → i < length rows → flat (λ e. e) (getD (lists ps) i []) ≡ parts (number i) start ps
+pub listed : (ps : List Provider) (i : ℕ) → i < length rows → flat (λ e. e) (getD (lists ps) i []) ≡ parts (number i) 0 none ps
 unfolding flat part tablePart
 listed ps =
-    rw (lists-itemized ps) (first (λ i. flat (λ e. e) (getD (itemized ps) i []) ≡ parts (number i) start ps) (length rows) (
-      plain-parts PROVIDERS providerWords (λ p. p ∷ []) (λ w p. refl) start ps,
+    rw (lists-itemized ps) (first (λ i. flat (λ e. e) (getD (itemized ps) i []) ≡ parts (number i) 0 none ps) (length rows) (
+      plain-parts PROVIDERS providerWords (λ p. p ∷ []) (λ n b p. refl) 0 none ps,
       (
-        plain-parts DESCRIPTORS descriptorWords (λ p. p .descriptors) (λ w p. refl) start ps,
+        plain-parts DESCRIPTORS descriptorWords (λ p. p .descriptors) (λ n b p. refl) 0 none ps,
         (
-          plain-parts UNKNOWN2 unknown2Words (λ p. p .unknown2) (λ w p. refl) start ps,
+          plain-parts UNKNOWN2 unknown2Words (λ p. p .unknown2) (λ n b p. refl) 0 none ps,
           (
-            tables-parts start ps,
+            tables-parts 0 none ps,
             (
-              table-parts DEFINITIONS definitionWords definitionsIn (λ w t. refl) (λ w p. refl) start ps,
+              table-parts DEFINITIONS definitionWords definitionsIn (λ n b t. refl) (λ n b p. refl) 0 none ps,
               (
-                table-parts EVENTS eventWords eventsIn (λ w t. refl) (λ w p. refl) start ps,
+                table-parts EVENTS eventWords eventsIn (λ n b t. refl) (λ n b p. refl) 0 none ps,
                 (
-                  maps-parts start ps refl,
+                  maps-parts 0 none ps refl,
                   (
-                    table-parts ENTRIES mapEntryWords entriesIn (λ w t. flat-flat mapEntryWords (λ m. m .entries) (mapsIn (t .rows))) (λ w p. refl) start ps,
+                    table-parts ENTRIES mapEntryWords entriesIn (λ n b t. flat-flat mapEntryWords (λ m. m .entries) (mapsIn (t .rows))) (λ n b p. refl) 0 none ps,
                     (
-                      table-parts TEMPLATES templateWords templatesIn (λ w t. refl) (λ w p. refl) start ps,
-                      (unknown-parts start ps, tt),
+                      table-parts TEMPLATES templateWords templatesIn (λ n b t. refl) (λ n b p. refl) 0 none ps,
+                      (unknown-parts 0 none ps, tt),
                     ),
                   ),
                 ),
