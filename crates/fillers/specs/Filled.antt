@@ -1,46 +1,32 @@
--- What a filler of a list needs of a table that is fine, and what it then has stored, list by list.
-use Prim.{tt}
-use Prim.Native.Nat.{ℕ, zero, suc, _+_, _*_, _-_, _≤_}
+-- What a filler of a list needs of a table that is fine, and that it then has stored what the list has of it.
+use Prim.Native.Nat.{ℕ, zero, suc, _+_, _*_, _≤_, _<_}
 use mathlib.Core.Path.{_≡_, refl, ap, sym, _∙_, subst}
 use mathlib.Core.Bool.{true}
-use mathlib.Core.List.{List, [], _∷_}
+use mathlib.Core.List.{List, [], _∷_, _++_, append-nil}
+use native.Mathlib.Nat.{mul-suc}
 use native.Mathlib.Omega.{arith}
-use lib.ListN.{length, getD, set, length-set}
+use lib.ListN.{length, getD, set, length-append, length-set}
 use lib.Seq.{getD-set-same}
-use lib.Dec.{eqb}
-use borrow.Author.Tests.{eqb-true, ne-eqb}
+use borrow.Author.Tests.{ne-eqb}
 use Rattle.blob.specs.declared.Verdict.the-variants as verdicts
-use Rattle.blob.specs.Reading.{Outcome, done, refused, run, many, verdict, values}
-use borrow.Rule.Slice.PartMut.{midOf, putMid}
-use Rattle.blob.specs.Laid.{flat, laid, laid-area}
-use Rattle.blob.specs.Laws.{fine-value}
-use Rattle.format.specs.Area as area
-use Rattle.format.specs.Area.{TABLES, DEFINITIONS, EVENTS, ENTRIES, TEMPLATES, place, of, more}
-use Rattle.format.specs.Table.{EVNT, MAPS, TTBL, kindList, header-length, stride}
+use Rattle.blob.specs.Reading.{Reading, Outcome, done, refused, run, many, verdict, values}
+use Rattle.blob.specs.Laid.{flat, laid}
+use Rattle.blob.specs.Laws.{fine-value, length-flat}
+use Rattle.format.specs.Area as list
+use Rattle.format.specs.Area.{TABLES, DEFINITIONS, EVENTS, ENTRIES, TEMPLATES, AREAS, place, of, more, width}
+use Rattle.format.specs.Table.{EVNT, MAPS, TTBL, kindList, stride}
 use Rattle.format.specs.Definition.{step, definitionsAt}
 use Rattle.format.specs.Event.{eventAt}
 use Rattle.format.specs.Template.{templatesAt}
-use Rattle.format.specs.Map.{mapsAt}
-use Rattle.format.specs.Provider.{Table, tableAt}
-use Rattle.format.specs.Lists.{definitionWords, eventWords, templateWords, mapList, mapEntryWords}
-use Rattle.format.specs.Answer.{capped}
-use Rattle.format.specs.steps.Needs.{grown, entryCount, modest}
-use Rattle.format.specs.theorems.Fits.{Few}
-use Rattle.format.specs.steps.Parts.{fits, moved, walked, tablePart}
+use Rattle.format.specs.Map.{Mapped, mapsAt}
+use Rattle.format.specs.Provider.{Rows, Table, tableAt}
+use Rattle.format.specs.Lists.{definitionsIn, eventsIn, mapsIn, templatesIn, definitionWords, eventWords, templateWords, mapList, mapEntryWords}
+use Rattle.format.specs.steps.Needs.{entryCount}
+use Rattle.format.specs.steps.Parts.{Counted, TablesRoom, TablesStored, tablePart, tableParts, behind, behindAll}
 use Rattle.format.specs.declared.Header.{Header}
-use Rattle.format.specs.theorems.Grows.{Grows, walked-grows, fits-before}
-use Rattle.format.specs.declared.Walk.{Walk}
-use Rattle.fillers.specs.Rows.{holdsDefinitions, hasEntries, partBy, walkedBy, table-walked, definitions-part, events-part, maps-part, templates-part}
-
--- so many more are so many more where they are few
-few-grown : (ns : List ℕ) (i n : ℕ) → Few (set ns i (getD ns i 0 + n)) → set ns i (getD ns i 0 + n) ≡ set ns i (capped (getD ns i 0 + n))
-few-grown [] i n f = refl
-few-grown (m ∷ ns) zero n f = let k = f 0 in let e : m + n ≡ capped (m + n) = omega arith in rw (← e)
-few-grown (m ∷ ns) (suc i) n f = ap (λ (l : List ℕ). m ∷ l) (few-grown ns i n (λ j. f (suc j)))
-
-pub few-modest : (ns : List ℕ) → Few ns → modest ns
-few-modest [] f = tt
-few-modest (n ∷ ns) f = (omega (arith, f 0), few-modest ns (λ i. f (suc i)))
+use Rattle.counts.specs.Short.{kind-row-most}
+use Rattle.fillers.specs.declared.Trailing.{Trailing}
+use Rattle.fillers.specs.Rows.{only, holdsDefinitions, hasEntries, trailingOf, definitions-in, events-in, maps-in, templates-in, table-words, table-behind}
 
 -- tables that have definitions have records
 pub definitions-stride : (k : ℕ) → 1 ≤ k → k ≤ 8 → holdsDefinitions k ≡ true → 12 ≤ stride k
@@ -56,111 +42,141 @@ definitions-stride (suc (suc (suc (suc (suc (suc (suc (suc zero)))))))) h g e = 
 definitions-stride (suc (suc (suc (suc (suc (suc (suc (suc (suc k))))))))) h g e = absurd (omega arith)
 
 -- a list that is none of the others is taken for that of templates
-module _ (l : ℕ) (t : l ≡ TABLES → ⊥) (d : l ≡ DEFINITIONS → ⊥) (e : l ≡ EVENTS → ⊥) (m : l ≡ area.MAPS → ⊥) (n : l ≡ ENTRIES → ⊥) where
+module _ (l : ℕ) (t : l ≡ TABLES → ⊥) (d : l ≡ DEFINITIONS → ⊥) (e : l ≡ EVENTS → ⊥) (m : l ≡ list.MAPS → ⊥) (n : l ≡ ENTRIES → ⊥) where
   pub as-templates : (k : ℕ) → hasEntries l k ≡ hasEntries TEMPLATES k
-  as-templates k = rw (ne-eqb l TABLES t, ne-eqb l DEFINITIONS d, ne-eqb l EVENTS e, ne-eqb l area.MAPS m, ne-eqb l ENTRIES n)
+  as-templates k = rw (ne-eqb l TABLES t, ne-eqb l DEFINITIONS d, ne-eqb l EVENTS e, ne-eqb l list.MAPS m, ne-eqb l ENTRIES n)
 
-  pub walked-templates : (w : Walk) (o : Outcome Table) → (walkedBy l w o ≡ walkedBy TEMPLATES w o) × (partBy l w o ≡ partBy TEMPLATES w o)
-  unfolding walked tablePart
-  walked-templates w (done t') = rw (ne-eqb l TABLES t, ne-eqb l DEFINITIONS d, ne-eqb l EVENTS e, ne-eqb l area.MAPS m, ne-eqb l ENTRIES n) (refl, refl)
-  walked-templates w (refused r) = (refl, refl)
+  pub parts-templates : (i : ℕ) (before : List ℕ) (o : Outcome Table)
+      → (tableParts l i before (only o) ≡ tableParts TEMPLATES i before (only o)) × (behindAll l before (only o) ≡ behindAll TEMPLATES before (only o))
+  unfolding tableParts behindAll tablePart
+  parts-templates i before (done t') = rw (ne-eqb l TABLES t, ne-eqb l DEFINITIONS d, ne-eqb l EVENTS e, ne-eqb l list.MAPS m, ne-eqb l ENTRIES n) (refl, refl)
+  parts-templates i before (refused r) = (refl, refl)
 
--- a list that is known, and a kind
-pub by-list : (l m k at : ℕ) (h : Header) (s : List ℕ) (w : Walk) (n : ℕ) → l ≡ m → hasEntries l k ≡ true → fits (walkedBy l w (run (tableAt k at h) s)) n
-    → (hasEntries m k ≡ true) × fits (walkedBy m w (run (tableAt k at h) s)) n
-by-list l m k at h s w n e g f = (rw e at g, rw e at f)
+-- how many words maps, and their entries, have
+maps-words : (n : ℕ) (ms : List Mapped) → length (flat (λ e. e) (mapList n ms)) ≡ width list.MAPS * length ms
+unfolding flat mapList
+maps-words n [] = refl
+maps-words n (m ∷ ms) = simp (maps-words (n + length (m .entries)) ms, mul-suc) (omega arith)
 
-pub by-kind : (m k j at : ℕ) (h : Header) (s : List ℕ) (w : Walk) (n : ℕ) → eqb k j ≡ true → at + header-length k ≤ length s
-    → verdict (run (tableAt k at h) s) ≡ verdicts.Fine → fits (walkedBy m w (run (tableAt k at h) s)) n
-    → (at + header-length j ≤ length s) × (verdict (run (tableAt j at h) s) ≡ verdicts.Fine) × fits (walkedBy m w (run (tableAt j at h) s)) n
-by-kind m k j at h s w n e a v f = let i = eqb-true k j e in (rw i at a, rw i at v, rw i at f)
+entries-words : (ms : List Mapped) → length (flat (λ m. flat mapEntryWords (m .entries)) ms) ≡ width ENTRIES * entryCount ms
+unfolding flat entryCount
+entries-words [] = refl
+entries-words (m ∷ ms) = simp (length-append, length-flat mapEntryWords (width ENTRIES) (λ x. refl) (m .entries), entries-words ms) (omega arith)
 
-module _ (k at : ℕ) (h : Header) (s : List ℕ) (w : Walk) (v : verdict (run (tableAt k at h) s) ≡ verdicts.Fine) where
-  -- the walk is behind its start
-  pub by-grows : (l : ℕ) → Grows w (walkedBy l w (run (tableAt k at h) s))
-  by-grows l =
-      let t = fine-value (run (tableAt k at h) s) v in
-      subst (λ (x : Walk). Grows w x) (sym (ap (walkedBy l w) (t .1))) (walked-grows l w (t .0))
+module _ (k at : ℕ) (h : Header) (s : List ℕ) (v : verdict (run (tableAt k at h) s) ≡ verdicts.Fine) where
+  abbrev found : Outcome Table
+  found = run (tableAt k at h) s
 
-  by-to : (l : ℕ) → walkedBy l w (run (tableAt k at h) s) .to ≡ w .to + length (partBy l w (run (tableAt k at h) s))
-  unfolding walked
-  by-to l = let t = fine-value (run (tableAt k at h) s) v in rw (t .1) refl
+  -- one table is there
+  module _ (l n : ℕ) (before : List ℕ) where
+    one-part : tableParts l n before (only found) ≡ tablePart l n before (fine-value found v .0)
+    unfolding tableParts
+    one-part = ap (λ o. tableParts l n before (only o)) (fine-value found v .1) ∙ append-nil _
 
-  -- the table's words, laid into what is left of the list's area, are laid into the area
-  pub area-laid : (l : ℕ) (lent area ws : List ℕ) → fits (walkedBy l w (run (tableAt k at h) s)) (length lent) → partBy l w (run (tableAt k at h) s) ≡ ws
-      → area ≡ laid (midOf (w .to) (length lent - w .to) lent) 0 ws
-      → putMid (w .to) (length lent - w .to) lent area ≡ laid lent (w .to) (partBy l w (run (tableAt k at h) s))
-  area-laid l lent area ws f e g =
-      let b : w .to + length ws ≤ length lent = subst (λ x. x ≤ length lent) (by-to l ∙ ap (λ (p : List ℕ). w .to + length p) e) (f .0) in
-      laid-area lent (w .to) (length lent) ws area (omega arith) (omega arith) (omega arith) g ∙ ap (laid lent (w .to)) (sym e)
+    one-behind : behindAll l before (only found) ≡ behind l before (fine-value found v .0)
+    unfolding behindAll
+    one-behind = ap (λ o. behindAll l before (only o)) (fine-value found v .1)
 
-  pub filled-4 : 1 ≤ k → k ≤ 8 → (n : ℕ) → fits (walkedBy TABLES w (run (tableAt k at h) s)) n
-      → (w .to + 9 ≤ n)
-      × (walkedBy TABLES w (run (tableAt k at h) s) ≡ record { number = w .number; before = grown (kindList k) (h .count) (w .before); to = w .to + 9 })
-  filled-4 one most n f =
-      let t = fine-value (run (tableAt k at h) s) v in
-      let e = ap (walkedBy TABLES w) (t .1) ∙ table-walked k at h s (t .0) w (t .1) one most in
-      let g = subst (λ x. fits x n) e f in
-      (g .0, e ∙ ap (λ (x : List ℕ). record { number = w .number; before = x; to = w .to + 9 }) (few-grown (w .before) (place (kindList k)) (h .count) (g .2)))
+    -- what was laid is what the list has of it
+    pub stored : (area area' before' ws : List ℕ) (m : ℕ) → tablePart l n before (fine-value found v .0) ≡ ws → m ≡ length ws
+        → before' ≡ behind l before (fine-value found v .0) → area' ≡ laid area 0 ws → TablesStored l n before (only found) area m before' area'
+    stored area area' before' ws m e c b g =
+        let p = one-part ∙ e in
+        record { count = c ∙ sym (ap length p); behind-is = b ∙ sym one-behind; area-is = g ∙ sym (ap (laid area 0) p) }
 
-  pub filled-5 : (n : ℕ) → holdsDefinitions k ≡ true → fits (walkedBy DEFINITIONS w (run (tableAt k at h) s)) n
-      → (verdict (run (definitionsAt k at h) s) ≡ verdicts.Fine)
-      × (w .to + 12 * h .count ≤ n)
-      × (partBy DEFINITIONS w (run (tableAt k at h) s) ≡ flat definitionWords (values (run (definitionsAt k at h) s)))
-      × (walkedBy DEFINITIONS w (run (tableAt k at h) s) ≡ moved w (12 * h .count))
-  filled-5 n q f =
-      let t = fine-value (run (tableAt k at h) s) v in
-      let x = definitions-part _ _ _ _ _ w (t .1) q in
-      let e = ap (walkedBy DEFINITIONS w) (t .1) ∙ x .3 in
-      let g = subst (λ x. fits x n) e f in
-      (ap verdict (x .1), g .0, ap (partBy DEFINITIONS w) (t .1) ∙ x .2 ∙ sym (ap (λ o. flat definitionWords (values o)) (x .1)), e)
+    pub roomed : (area ws : List ℕ) → TablesRoom l n before (only found) area → tablePart l n before (fine-value found v .0) ≡ ws → length ws ≤ length area
+    roomed area ws r e = omega (arith, r .fits, ap length (one-part ∙ e))
 
-module _ (at : ℕ) (h : Header) (s : List ℕ) (w : Walk) (n : ℕ) where
-  pub filled-6 : verdict (run (tableAt EVNT at h) s) ≡ verdicts.Fine → fits (walkedBy EVENTS w (run (tableAt EVNT at h) s)) n
-      → (at + 16 + 48 * h .count ≤ length s)
-      × (w .to + 16 * h .count ≤ n)
-      × (partBy EVENTS w (run (tableAt EVNT at h) s) ≡ flat eventWords (values (run (many eventAt (step 48) (h .count) (at + 16)) s)))
-      × (walkedBy EVENTS w (run (tableAt EVNT at h) s) ≡ moved w (16 * h .count))
-  filled-6 v f =
-      let t = fine-value (run (tableAt EVNT at h) s) v in
-      let x = events-part _ _ _ _ _ w (t .1) refl in
-      let e = ap (walkedBy EVENTS w) (t .1) ∙ x .4 in
-      let g = subst (λ x. fits x n) e f in
-      (x .2, g .0, ap (partBy EVENTS w) (t .1) ∙ x .3 ∙ sym (ap (λ o. flat eventWords (values o)) (x .1)), e)
+  abbrev here : Table
+  here = fine-value found v .0
 
-  pub filled-7 : verdict (run (tableAt MAPS at h) s) ≡ verdicts.Fine → fits (walkedBy area.MAPS w (run (tableAt MAPS at h) s)) n
+  -- a list whose entries are words of what a filler reads, as many as the header says
+  abbrev Fills : {B : Type 0} → ℕ → (B → List ℕ) → Outcome (List B) → Type 0
+  Fills l words o =
+      (n : ℕ) (before area : List ℕ) → TablesRoom l n before (only found) area
+      → (verdict o ≡ verdicts.Fine)
+      × (width l * h .count ≤ length area)
+      × ((area' : List ℕ) → area' ≡ laid area 0 (flat words (values o)) → TablesStored l n before (only found) area (width l * h .count) before area')
+
+  plain : {B : Type 0} (l : ℕ) (words : B → List ℕ) (items : Rows → List B) → ((b : B) → length (words b) ≡ width l)
+      → ((n : ℕ) (before : List ℕ) → tablePart l n before here ≡ flat words (items (here .rows))) → ((before : List ℕ) → behind l before here ≡ before)
+      → (o : Outcome (List B)) → o ≡ done (items (here .rows)) → length (items (here .rows)) ≡ h .count → Fills l words o
+  plain l words items wide has keeps o e c n before area r =
+      let long = length-flat words (width l) wide (items (here .rows)) ∙ ap (λ m. width l * m) c in (
+        ap verdict e,
+        omega (arith, roomed l n before area _ r (has n before), long),
+        λ area' g. stored l n before area area' before _ _ (has n before) (sym long) (sym (keeps before)) (g ∙ ap (λ x. laid area 0 (flat words (values x))) e),
+      )
+
+  pub fills-definitions : holdsDefinitions k ≡ true → Fills DEFINITIONS definitionWords (run (definitionsAt k at h) s)
+  unfolding tablePart
+  fills-definitions q =
+      let x = definitions-in k at h s here (fine-value found v .1) q in
+      plain DEFINITIONS definitionWords definitionsIn (λ d. refl) (λ n before. refl) (λ before. refl) _ (x .0) (x .1)
+
+  pub fills-events : k ≡ EVNT → Fills EVENTS eventWords (run (many eventAt (step 48) (h .count) (at + 16)) s)
+  unfolding tablePart
+  fills-events q =
+      let x = events-in k at h s here (fine-value found v .1) q in
+      plain EVENTS eventWords eventsIn (λ d. refl) (λ n before. refl) (λ before. refl) _ (x .0) (x .1)
+
+  pub events-room : k ≡ EVNT → at + 16 + 48 * h .count ≤ length s
+  events-room q = events-in k at h s here (fine-value found v .1) q .2
+
+  pub fills-templates : k ≡ TTBL → Fills TEMPLATES templateWords (run (templatesAt at h) s)
+  unfolding tablePart
+  fills-templates q =
+      let x = templates-in k at h s here (fine-value found v .1) q in
+      plain TEMPLATES templateWords templatesIn (λ d. refl) (λ n before. refl) (λ before. refl) _ (x .0) (x .1)
+
+  -- list 8: the entries of maps
+  pub fills-entries : k ≡ MAPS → (n : ℕ) (before area : List ℕ) → TablesRoom ENTRIES n before (only found) area
       → (verdict (run (mapsAt at h) s) ≡ verdicts.Fine)
-      × (w .to + 11 * h .count ≤ n)
-      × (of ENTRIES (w .before) + entryCount (values (run (mapsAt at h) s)) ≤ 65536)
-      × (partBy area.MAPS w (run (tableAt MAPS at h) s) ≡ flat (λ e. e) (mapList (of ENTRIES (w .before)) (values (run (mapsAt at h) s))))
-      × (walkedBy area.MAPS w (run (tableAt MAPS at h) s) ≡ record { number = w .number; before = more ENTRIES (entryCount (values (run (mapsAt at h) s))) (w .before); to = w .to + 11 * h .count })
-  filled-7 v f =
-      let t = fine-value (run (tableAt MAPS at h) s) v in
-      let x = maps-part _ _ _ _ _ w (t .1) refl in
-      let e = ap (walkedBy area.MAPS w) (t .1) ∙ x .3 in
-      let g = subst (λ x. fits x n) e f in
-      rw (x .1) (refl, g .0, omega (arith, g .2 (place ENTRIES), getD-set-same (w .before) (place ENTRIES) (of ENTRIES (w .before) + entryCount (x .0)) 0 (omega (arith, g .3, length-set (w .before) (place ENTRIES) (of ENTRIES (w .before) + entryCount (x .0))))), ap (partBy area.MAPS w) (t .1) ∙ x .2, e)
+      × (width ENTRIES * entryCount (values (run (mapsAt at h) s)) ≤ length area)
+      × ((m : ℕ) (area' : List ℕ) → m ≡ width ENTRIES * entryCount (values (run (mapsAt at h) s))
+      → area' ≡ laid area 0 (flat (λ m. flat mapEntryWords (m .entries)) (values (run (mapsAt at h) s))) → TablesStored ENTRIES n before (only found) area m before area')
+  unfolding tablePart
+  fills-entries q n before area r =
+      let x = maps-in k at h s here (fine-value found v .1) q in
+      let long = entries-words (mapsIn (here .rows)) in
+      rw (x .0) (refl, omega (arith, roomed ENTRIES n before area _ r refl, long), λ m area' e g. stored ENTRIES n before area area' before _ m refl (e ∙ sym long) refl g)
 
-  pub filled-8 : verdict (run (tableAt MAPS at h) s) ≡ verdicts.Fine → fits (walkedBy ENTRIES w (run (tableAt MAPS at h) s)) n
+  -- so many more in a list are few
+  few-more : (l m : ℕ) (ns : List ℕ) → place l < AREAS → Counted (more l m ns) → of l ns + m ≤ 65536
+  few-more l m ns p f = omega (arith, f .0 (place l), getD-set-same ns (place l) (of l ns + m) 0 (omega (arith, f .1, length-set ns (place l) (of l ns + m))))
+
+  -- list 7: the maps, whose entries are counted
+  pub fills-maps : k ≡ MAPS → (n : ℕ) (before area : List ℕ) → TablesRoom list.MAPS n before (only found) area
       → (verdict (run (mapsAt at h) s) ≡ verdicts.Fine)
-      × (w .to + 2 * entryCount (values (run (mapsAt at h) s)) ≤ n)
-      × (partBy ENTRIES w (run (tableAt MAPS at h) s) ≡ flat (λ m. flat mapEntryWords (m .entries)) (values (run (mapsAt at h) s)))
-      × (walkedBy ENTRIES w (run (tableAt MAPS at h) s) ≡ moved w (2 * entryCount (values (run (mapsAt at h) s))))
-  filled-8 v f =
-      let t = fine-value (run (tableAt MAPS at h) s) v in
-      let x = maps-part _ _ _ _ _ w (t .1) refl in
-      let e = ap (walkedBy ENTRIES w) (t .1) ∙ x .5 in
-      let g = subst (λ x. fits x n) e f in
-      rw (x .1) (refl, g .0, ap (partBy ENTRIES w) (t .1) ∙ x .4, e)
+      × (width list.MAPS * h .count ≤ length area)
+      × (of ENTRIES before + entryCount (values (run (mapsAt at h) s)) ≤ 65536)
+      × ((m : ℕ) (area' : List ℕ) → m ≡ of ENTRIES before + entryCount (values (run (mapsAt at h) s))
+      → area' ≡ laid area 0 (flat (λ e. e) (mapList (of ENTRIES before) (values (run (mapsAt at h) s))))
+      → TablesStored list.MAPS n before (only found) area (width list.MAPS * h .count) (set before (place ENTRIES) m) area')
+  unfolding tablePart
+  fills-maps q n before area r =
+      let x = maps-in k at h s here (fine-value found v .1) q in
+      let long = maps-words (of ENTRIES before) (mapsIn (here .rows)) ∙ ap (λ m. width list.MAPS * m) (x .1) in
+      rw (x .0) (
+        refl,
+        omega (arith, roomed list.MAPS n before area _ r refl, long),
+        few-more ENTRIES _ before (omega arith) (subst Counted (one-behind list.MAPS n before) (r .few)),
+        λ m area' e g. stored list.MAPS n before area area' _ _ _ refl (sym long) (ap (set before (place ENTRIES)) e) g,
+      )
 
-  pub filled-9 : verdict (run (tableAt TTBL at h) s) ≡ verdicts.Fine → fits (walkedBy TEMPLATES w (run (tableAt TTBL at h) s)) n
-      → (verdict (run (templatesAt at h) s) ≡ verdicts.Fine)
-      × (w .to + 12 * h .count ≤ n)
-      × (partBy TEMPLATES w (run (tableAt TTBL at h) s) ≡ flat templateWords (values (run (templatesAt at h) s)))
-      × (walkedBy TEMPLATES w (run (tableAt TTBL at h) s) ≡ moved w (12 * h .count))
-  filled-9 v f =
-      let t = fine-value (run (tableAt TTBL at h) s) v in
-      let x = templates-part _ _ _ _ _ w (t .1) refl in
-      let e = ap (walkedBy TEMPLATES w) (t .1) ∙ x .3 in
-      let g = subst (λ x. fits x n) e f in
-      (ap verdict (x .1), g .0, ap (partBy TEMPLATES w) (t .1) ∙ x .2 ∙ sym (ap (λ o. flat templateWords (values o)) (x .1)), e)
+  -- list 4: the table itself, whose entries are counted
+  module _ (one : 1 ≤ k) (most : k ≤ 8) (n : ℕ) (before area : List ℕ) (r : TablesRoom TABLES n before (only found) area) where
+    pub table-room : (width TABLES ≤ length area) × (of (kindList k) before + h .count ≤ 65536)
+    unfolding tablePart
+    table-room = (
+      roomed TABLES n before area _ r refl,
+      few-more (kindList k) (h .count) before (kind-row-most k one most) (subst Counted (one-behind TABLES n before ∙ table-behind k at h s here (fine-value found v .1) one most before) (r .few)),
+    )
+
+    pub table-stored : (x : Trailing) (i : ℕ) (area' : List ℕ) → x ≡ trailingOf found → i ≡ place (kindList k)
+        → area' ≡ laid area 0 (n ∷ k ∷ at ∷ h .size ∷ x .extra ∷ getD before i 0 ∷ h .count ∷ x .start ∷ x .length ∷ [])
+        → TablesStored TABLES n before (only found) area (width TABLES) (set before i (getD before i 0 + h .count)) area'
+    table-stored x i area' e j g =
+        let e' = fine-value found v .1 in
+        stored TABLES n before area area' _ _ _ (sym (table-words k at h s here e' one most x n _ before e (ap (λ m. getD before m 0) j))) refl
+        (ap (λ m. set before m (getD before m 0 + h .count)) j ∙ sym (table-behind k at h s here e' one most before)) g

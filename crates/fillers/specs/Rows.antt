@@ -3,16 +3,14 @@ use Prim.Native.Nat.{ℕ, _+_, _*_, _-_, _≤_}
 use mathlib.Core.Path.{_≡_, refl, ap, sym, _∙_}
 use mathlib.Core.Bool.{Bool, true, false}
 use mathlib.Core.List.{List, [], _∷_}
-use native.Mathlib.Nat.{mul-suc}
 use native.Mathlib.Omega.{arith}
-use lib.ListN.{length, length-append}
+use lib.ListN.{length}
 use lib.Dec.{eqb}
 use borrow.Author.Tests.{eqb-true, eqb-false, ne-eqb}
 use Rattle.blob.specs.Le.{le}
 use Rattle.blob.specs.declared.Refusal.{Refusal}
 use Rattle.blob.specs.Reading.{Outcome, done, refused, choose, run, many, answer}
-use Rattle.blob.specs.Laid.{flat}
-use Rattle.blob.specs.Laws.{never, same, length-flat}
+use Rattle.blob.specs.Laws.{never, same}
 use Rattle.format.specs.Area as area
 use Rattle.format.specs.Area.{TABLES, DEFINITIONS, EVENTS, ENTRIES, TEMPLATES, of, more}
 use Rattle.format.specs.Table.{EVNT, MAPS, TTBL, kindList, header-length, tableEnd}
@@ -21,14 +19,12 @@ use Rattle.format.specs.Event.{eventAt}
 use Rattle.format.specs.Template.{templatesAt}
 use Rattle.format.specs.Map.{Mapped, mapsAt}
 use Rattle.format.specs.Provider.{Table, definitions, events, maps, templates, plain, tableAt}
-use Rattle.format.specs.Lists.{rowCount, definitionsIn, eventsIn, mapsIn, templatesIn, definitionWords, eventWords, templateWords, mapList, mapEntryWords}
-use Rattle.format.specs.steps.Needs.{entryCount}
-use Rattle.format.specs.steps.Parts.{tablePart, walked, moved}
+use Rattle.format.specs.Lists.{rowCount, definitionsIn, eventsIn, mapsIn, templatesIn}
+use Rattle.format.specs.steps.Parts.{tablePart, behind}
 use Rattle.format.specs.declared.Header.{Header}
 use Rattle.format.specs.declared.Definition.{Definition}
 use Rattle.format.specs.declared.Event.{Event}
 use Rattle.format.specs.declared.Template.{Template}
-use Rattle.format.specs.declared.Walk.{Walk}
 use Rattle.table.specs.Headers.{end-fits}
 use Rattle.element.specs.Tables.{are-events, are-maps, are-templates, are-definitions, told}
 use Rattle.fillers.specs.declared.Trailing.{Trailing}
@@ -48,26 +44,14 @@ hasEntries l k =
 abbrev pub trailingOf : Outcome Table → Trailing
 trailingOf o = answer (λ t. record { extra = t .extra; start = t .start; length = t .length }) (λ r. record { extra = 0; start = 0; length = 0 }) o
 
-abbrev pub partBy : ℕ → Walk → Outcome Table → List ℕ
-partBy l w o = answer (tablePart l w) (λ r. []) o
+-- the table that a reading found, if it found one
+abbrev pub only : Outcome Table → List Table
+only (done t) = t ∷ []
+only (refused r) = []
 
-abbrev pub walkedBy : ℕ → Walk → Outcome Table → Walk
-walkedBy l w o = answer (walked l w) (λ r. w) o
-
--- an EVNT's header
-pub trailing-room : (k at n : ℕ) → k ≡ EVNT → at + header-length k ≤ n → at + 16 ≤ n
-trailing-room k at n v g = rw v at g
-
--- how many words maps, and their entries, have
-maps-words : (n : ℕ) (ms : List Mapped) → length (flat (λ e. e) (mapList n ms)) ≡ 11 * length ms
-unfolding flat mapList
-maps-words n [] = refl
-maps-words n (m ∷ ms) = simp (maps-words (n + length (m .entries)) ms, mul-suc) (omega arith)
-
-entries-words : (ms : List Mapped) → length (flat (λ m. flat mapEntryWords (m .entries)) ms) ≡ 2 * entryCount ms
-unfolding flat entryCount
-entries-words [] = refl
-entries-words (m ∷ ms) = simp (length-append, length-flat mapEntryWords 2 (λ x. refl) (m .entries), entries-words ms) (omega arith)
+-- the header of a kind that is known
+pub header-as : (j k at n : ℕ) → k ≡ j → at + header-length k ≤ n → at + header-length j ≤ n
+header-as j k at n e g = rw e at g
 
 -- A table of a kind as its reading made it.
 pub data Shape (k at : ℕ) (h : Header) (s : List ℕ) (t : Table) : Type 0 where
@@ -115,94 +99,38 @@ module _ (k at : ℕ) (h : Header) (s : List ℕ) (t : Table) where
   never-ends r v e (of-templates g ts _ m) = omega (arith, v, g)
   never-ends r v e (of-definitions a b c ds _ m) = a v
 
-  module _ (w : Walk) (e : run (tableAt k at h) s ≡ done t) where
-    -- list 4: the table itself
-    module _ (one : 1 ≤ k) (most : k ≤ 8) where
-      table-part : tablePart TABLES w t
-          ≡ w .number ∷ k ∷ at ∷ h .size ∷ t .extra ∷ of (kindList k) (w .before) ∷ h .count ∷ t .start ∷ t .length ∷ []
-      unfolding tablePart
-      table-part =
-          let x = told s k at h t e in
-          rw (x .kind, x .offset, x .size, x .count, x .list one most) refl
-
-      pub put-words : (x : Trailing) (first : ℕ) → x ≡ trailingOf (run (tableAt k at h) s) → first ≡ of (kindList k) (w .before)
-          → _≡_ {A = List ℕ} (w .number ∷ k ∷ at ∷ h .size ∷ x .extra ∷ first ∷ h .count ∷ x .start ∷ x .length ∷ []) (partBy TABLES w (run (tableAt k at h) s))
-      put-words x first f g =
-          let y : x ≡ trailingOf (done t) = f ∙ ap trailingOf e in
-          rw (y, g) (sym (ap (partBy TABLES w) e ∙ table-part))
-
-      pub table-walked : walked TABLES w t ≡ record { number = w .number; before = more (kindList k) (h .count) (w .before); to = w .to + 9 }
-      unfolding walked tablePart
-      table-walked = let x = told s k at h t e in rw (x .list one most, x .count) refl
-
-    -- so many entries, of so many words each, as the header says
-    sized : {A : Type 0} (words : A → List ℕ) (n : ℕ) → ((a : A) → length (words a) ≡ n) → (vs : List A) → rowCount (t .rows) ≡ length vs
-        → length (flat words vs) ≡ n * h .count
-    sized words n f vs c = length-flat words n f vs ∙ ap (λ x. n * x) (sym c ∙ told s k at h t e .count)
-
-    -- list 5: definitions
-    pub definitions-part : holdsDefinitions k ≡ true → (ds : List Definition)
-        × (run (definitionsAt k at h) s ≡ done ds)
-        × (tablePart DEFINITIONS w t ≡ flat definitionWords ds)
-        × (walked DEFINITIONS w t ≡ moved w (12 * h .count))
-    unfolding walked tablePart
-    definitions-part q = go (shape e)
+  -- what a list's filler reads is what the table has, as much as its header says
+  module _ (e : run (tableAt k at h) s ≡ done t) where
+    pub definitions-in : holdsDefinitions k ≡ true → (run (definitionsAt k at h) s ≡ done (definitionsIn (t .rows))) × (length (definitionsIn (t .rows)) ≡ h .count)
+    definitions-in q = go (shape e)
       where
-        go : Shape k at h s t → (ds : List Definition)
-            × (run (definitionsAt k at h) s ≡ done ds)
-            × (tablePart DEFINITIONS w t ≡ flat definitionWords ds)
-            × (walked DEFINITIONS w t ≡ moved w (12 * h .count))
+        go : Shape k at h s t → (run (definitionsAt k at h) s ≡ done (definitionsIn (t .rows))) × (length (definitionsIn (t .rows)) ≡ h .count)
         go (of-events v _ _ es _ m) = absurd (let z : _≡_ {A = ℕ} 0 1 = cc in omega arith)
         go (of-maps v ms _ m) = absurd (let z : _≡_ {A = ℕ} 0 1 = cc in omega arith)
         go (of-templates v ts _ m) = absurd (let z : _≡_ {A = ℕ} 0 1 = cc in omega arith)
-        go (of-definitions a b c ds r m) =
-            let p : flat definitionWords (definitionsIn (t .rows)) ≡ flat definitionWords ds = rw m refl in
-            (ds, r, p, ap (moved w) (ap length p ∙ sized definitionWords 12 (λ d. refl) ds (rw m refl)))
+        go (of-definitions a b c ds r m) = rw m (r, rw m at (told s k at h t e .count))
 
-    -- list 6: events
-    pub events-part : k ≡ EVNT → (es : List Event)
-        × (run (many eventAt (step 48) (h .count) (at + 16)) s ≡ done es)
+    pub events-in : k ≡ EVNT
+        → (run (many eventAt (step 48) (h .count) (at + 16)) s ≡ done (eventsIn (t .rows)))
+        × (length (eventsIn (t .rows)) ≡ h .count)
         × (at + 16 + 48 * h .count ≤ length s)
-        × (tablePart EVENTS w t ≡ flat eventWords es)
-        × (walked EVENTS w t ≡ moved w (16 * h .count))
-    unfolding walked tablePart
-    events-part q =
-        let x = are-events s k at h t e q in
-        let es = x .2 in
-        let p : flat eventWords (eventsIn (t .rows)) ≡ flat eventWords es = ap (λ (y : Table). flat eventWords (eventsIn (y .rows))) (x .4) in
-        (es, x .3, end-fits EVNT at h s (x .0) (x .1), p, ap (moved w) (ap length p ∙ sized eventWords 16 (λ d. refl) es (ap (λ (y : Table). rowCount (y .rows)) (x .4))))
+    events-in q = let x = are-events s k at h t e q in rw (x .4) (x .3, rw (x .4) at (told s k at h t e .count), end-fits EVNT at h s (x .0) (x .1))
 
-    -- lists 7 and 8: maps, and their entries
-    pub maps-part : k ≡ MAPS → (ms : List Mapped)
-        × (run (mapsAt at h) s ≡ done ms)
-        × (tablePart area.MAPS w t ≡ flat (λ e. e) (mapList (of ENTRIES (w .before)) ms))
-        × (walked area.MAPS w t ≡ record { number = w .number; before = more ENTRIES (entryCount ms) (w .before); to = w .to + 11 * h .count })
-        × (tablePart ENTRIES w t ≡ flat (λ m. flat mapEntryWords (m .entries)) ms)
-        × (walked ENTRIES w t ≡ moved w (2 * entryCount ms))
-    unfolding walked tablePart
-    maps-part q =
-        let x = are-maps s k at h t e q in
-        let ms = x .0 in
-        let r : mapsIn (t .rows) ≡ ms = ap (λ (y : Table). mapsIn (y .rows)) (x .2) in
-        let c : length ms ≡ h .count = sym (ap (λ (y : Table). rowCount (y .rows)) (x .2)) ∙ told s k at h t e .count in
-        let p : flat (λ e. e) (mapList (of ENTRIES (w .before)) (mapsIn (t .rows))) ≡ flat (λ e. e) (mapList (of ENTRIES (w .before)) ms) = ap (λ (l : List Mapped). flat (λ e. e) (mapList (of ENTRIES (w .before)) l)) r in
-        let o : flat (λ m. flat mapEntryWords (m .entries)) (mapsIn (t .rows)) ≡ flat (λ m. flat mapEntryWords (m .entries)) ms = ap (flat (λ m. flat mapEntryWords (m .entries))) r in (
-          ms,
-          x .1,
-          p,
-          rw (r, maps-words (of ENTRIES (w .before)) ms, c) refl,
-          o,
-          ap (moved w) (ap length o ∙ entries-words ms),
-        )
+    pub maps-in : k ≡ MAPS → (run (mapsAt at h) s ≡ done (mapsIn (t .rows))) × (length (mapsIn (t .rows)) ≡ h .count)
+    maps-in q = let x = are-maps s k at h t e q in rw (x .2) (x .1, rw (x .2) at (told s k at h t e .count))
 
-    -- list 9: templates
-    pub templates-part : k ≡ TTBL → (ts : List Template)
-        × (run (templatesAt at h) s ≡ done ts)
-        × (tablePart TEMPLATES w t ≡ flat templateWords ts)
-        × (walked TEMPLATES w t ≡ moved w (12 * h .count))
-    unfolding walked tablePart
-    templates-part q =
-        let x = are-templates s k at h t e q in
-        let ts = x .0 in
-        let p : flat templateWords (templatesIn (t .rows)) ≡ flat templateWords ts = ap (λ (y : Table). flat templateWords (templatesIn (y .rows))) (x .2) in
-        (ts, x .1, p, ap (moved w) (ap length p ∙ sized templateWords 12 (λ d. refl) ts (ap (λ (y : Table). rowCount (y .rows)) (x .2))))
+    pub templates-in : k ≡ TTBL → (run (templatesAt at h) s ≡ done (templatesIn (t .rows))) × (length (templatesIn (t .rows)) ≡ h .count)
+    templates-in q = let x = are-templates s k at h t e q in rw (x .2) (x .1, rw (x .2) at (told s k at h t e .count))
+
+    -- list 4: the table itself
+    module _ (one : 1 ≤ k) (most : k ≤ 8) where
+      pub table-words : (x : Trailing) (n first : ℕ) (before : List ℕ) → x ≡ trailingOf (run (tableAt k at h) s) → first ≡ of (kindList k) before
+          → _≡_ {A = List ℕ} (n ∷ k ∷ at ∷ h .size ∷ x .extra ∷ first ∷ h .count ∷ x .start ∷ x .length ∷ []) (tablePart TABLES n before t)
+      unfolding tablePart
+      table-words x n first before f g =
+          let y : x ≡ trailingOf (done t) = f ∙ ap trailingOf e in
+          let z = told s k at h t e in
+          rw (y, g) (rw (z .kind, z .offset, z .size, z .count, z .list one most) refl)
+
+      pub table-behind : (before : List ℕ) → behind TABLES before t ≡ more (kindList k) (h .count) before
+      table-behind before = let x = told s k at h t e in rw (x .list one most, x .count) refl

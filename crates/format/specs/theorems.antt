@@ -12,6 +12,7 @@ pub mod Described
 pub mod Rested
 pub mod Block
 pub mod Grows
+pub mod Stored
 pub mod Listed
 pub mod Needed
 pub mod Fits

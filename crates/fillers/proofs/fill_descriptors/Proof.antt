@@ -7,6 +7,7 @@ use lib.ListN.{length}
 use Rattle.blob.specs.declared.Verdict.the-variants as verdicts
 use Rattle.blob.specs.Reading.{run, many, verdict}
 use Rattle.blob.specs.Laws.{many-more, rest, rest-more, rest-none}
+use Rattle.format.specs.Area.{DESCRIPTORS, width}
 use Rattle.format.specs.Definition.{step}
 use Rattle.format.specs.Lists.{descriptorWords}
 use Rattle.format.specs.Provider.{descriptorAt}
@@ -17,7 +18,7 @@ use Rattle.fillers.proofs.fill_descriptors.Tie as tie
 abbrev Inv-loop : tie.InvT-loop
 Inv-loop b start n area₀ at₀ left₀ to₀ area at left to =
     (at + 8 * left ≤ length b)
-    × (to + 3 * left ≤ length area)
+    × (to + width DESCRIPTORS * left ≡ width DESCRIPTORS * n)
     × (length area ≡ length area₀)
     × (verdict (run (many descriptorAt (step 8) left at) b) ≡ verdicts.Fine)
     × (rest descriptorAt (step 8) descriptorWords b area₀ n start 0 ≡ rest descriptorAt (step 8) descriptorWords b area left at to)
@@ -67,7 +68,7 @@ same-length : tie.Need-same-length Inv-loop μ-loop
 same-length c = search needs
 
 returns : tie.Need-returns Inv-loop μ-loop
-returns c = sym (c .before .loop .inv .4 ∙ rest-none descriptorAt (step 8) descriptorWords _ _ _ _ _ (c .loop-test .left))
+returns c = (omega arith, sym (c .before .loop .inv .4 ∙ rest-none descriptorAt (step 8) descriptorWords _ _ _ _ _ (c .loop-test .left)))
 
 pub fill-descriptors-spec : {M : Type 1} → statement M
 fill-descriptors-spec =

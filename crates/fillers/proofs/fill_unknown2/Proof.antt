@@ -17,7 +17,7 @@ use Rattle.fillers.proofs.fill_unknown2.Tie as tie
 abbrev Inv-loop : tie.InvT-loop
 Inv-loop b start n area₀ at₀ left₀ to₀ area at left to =
     (at + 4 * left ≤ length b)
-    × (to + left ≤ length area)
+    × (to + left ≡ n)
     × (length area ≡ length area₀)
     × (rest (number 4) (step 4) unknown2Words b area₀ n start 0 ≡ rest (number 4) (step 4) unknown2Words b area left at to)
 
@@ -57,7 +57,7 @@ unfolding laid
 loop-again c =
     let l = c .before .before in (
       omega arith,
-      simp length-set (omega arith),
+      omega arith,
       simp length-set (l .loop .inv .2),
       l .loop .inv .3 ∙ rest-more (number 4) (step 4) unknown2Words _ _ _ _ _ _ _ (ap (set (l .loop .area) (l .loop .to)) (c .word .ensures)) (c .before .loop-test .taken) (finds-number 4 _ _) (fine _ _ _),
     )
@@ -66,7 +66,7 @@ same-length : tie.Need-same-length Inv-loop μ-loop
 same-length c = search needs
 
 returns : tie.Need-returns Inv-loop μ-loop
-returns c = sym (c .before .loop .inv .3 ∙ rest-none (number 4) (step 4) unknown2Words _ _ _ _ _ (c .loop-test .left))
+returns c = (omega arith, sym (c .before .loop .inv .3 ∙ rest-none (number 4) (step 4) unknown2Words _ _ _ _ _ (c .loop-test .left)))
 
 pub fill-unknown2-spec : {M : Type 1} → statement M
 fill-unknown2-spec =

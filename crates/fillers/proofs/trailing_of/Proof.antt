@@ -1,7 +1,7 @@
 use mathlib.Core.Path.{ap, sym, _∙_}
 use native.Mathlib.Omega.{arith}
 use Rattle.blob.specs.Laws.{fine-value}
-use Rattle.fillers.specs.Rows.{trailingOf, shape, no-trailing, trailing-room, trailing-is, never-ends}
+use Rattle.fillers.specs.Rows.{trailingOf, shape, no-trailing, header-as, trailing-is, never-ends}
 use Rattle.table.specs.Headers.{end-bounds}
 use Rattle.format.specs.theorems.Ends.{is-place, no-end}
 use borrow.Author.Needs.{needs}
@@ -26,7 +26,7 @@ add-start-2 : tie.Need-add-start-2
 add-start-2 c = search needs
 
 table-end-requires : tie.Need-table-end-requires
-table-end-requires c κs = ((search needs, search needs, trailing-room _ _ _ (c .before .if1 .left) (c .before .before .before .pre .0 .2)), search needs)
+table-end-requires c κs = ((search needs, search needs, header-as 2 _ _ _ (c .before .if1 .left) (c .before .before .before .pre .0 .2)), search needs)
 
 enum-told : tie.Need-enum-told
 enum-told c = search needs
@@ -40,7 +40,7 @@ add-word c = search needs
 word-requires : tie.Need-word-requires
 word-requires c κs =
     let o = c .before .before .before .before .before in
-    let r = trailing-room _ _ _ (o .if1 .left) (o .before .before .pre .0 .2) in
+    let r = header-as 2 _ _ _ (o .if1 .left) (o .before .before .pre .0 .2) in
     omega (arith, r)
 
 cast-t15 : tie.Need-cast-t15

@@ -16,13 +16,20 @@ use Rattle.format.specs.steps.Needs.{entryCount}
 abbrev pub Few : List ℕ → Type 0
 Few ns = (i : ℕ) → getD ns i 0 ≤ 65536
 
--- an area has room for some words, and no list has too many behind them
-abbrev pub Room : List ℕ → List ℕ → List ℕ → Type 0
-Room words behind area = (length words ≤ length area) × Few behind × (length behind ≡ length rows)
+-- a few for each list
+abbrev pub Counted : List ℕ → Type 0
+Counted ns = Few ns × (length ns ≡ length rows)
+
+-- an area has room for some words, and no list has too many entries behind them
+pub record Room (words behind area : List ℕ) : Type 0 where
+  pub fits : length words ≤ length area
+  pub few : Counted behind
 
 -- so many words were stored in an area from its start on, and so many entries are written behind them in each list
-abbrev pub Stored : List ℕ → List ℕ → List ℕ → ℕ → List ℕ → List ℕ → Type 0
-Stored words behind area n behind' area' = (n ≡ length words) × (behind' ≡ behind) × (area' ≡ laid area 0 words)
+pub record Stored (words behind area : List ℕ) (n : ℕ) (behind' area' : List ℕ) : Type 0 where
+  pub count : n ≡ length words
+  pub behind-is : behind' ≡ behind
+  pub area-is : area' ≡ laid area 0 words
 
 -- the words that a list has of a table
 unfoldable pub tablePart : ℕ → ℕ → List ℕ → Table → List ℕ
@@ -47,6 +54,13 @@ tableParts l n before (t ∷ ts) = tablePart l n before t ++ tableParts l n (beh
 unfoldable pub behindAll : ℕ → List ℕ → List Table → List ℕ
 behindAll l before [] = before
 behindAll l before (t ∷ ts) = behindAll l (behind l before t) ts
+
+-- an area has room for what a list has of some tables, and it was stored there
+abbrev pub TablesRoom : ℕ → ℕ → List ℕ → List Table → List ℕ → Type 0
+TablesRoom l n before ts area = Room (tableParts l n before ts) (behindAll l before ts) area
+
+abbrev pub TablesStored : ℕ → ℕ → List ℕ → List Table → List ℕ → ℕ → List ℕ → List ℕ → Type 0
+TablesStored l n before ts area k before' area' = Stored (tableParts l n before ts) (behindAll l before ts) area k before' area'
 
 -- by the list's number: one that goes over providers, or over their tables
 abbrev pub by-list : {A : Type 0} → ℕ → A → A → A → A → A → A

@@ -212,4 +212,4 @@ module _ (ps : List Provider) (f : Few (counted (lists ps))) where
   pub list-room : (i : ℕ) → i < length rows → (area : List ℕ) → words i * length (getD (lists ps) i []) ≤ length area
       → Room (parts (number i) 0 none ps) (passedAll (number i) none ps) area
   list-room i h area r =
-      rw (passedAll-tables (number i) none ps) (omega (arith, parts-wide ps i h), few-behind (number i), behindAll-length (number i) none (tables ps))
+      record { fits = omega (arith, parts-wide ps i h); few = rw (passedAll-tables (number i) none ps) (few-behind (number i), behindAll-length (number i) none (tables ps)) }
