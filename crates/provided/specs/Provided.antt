@@ -1,46 +1,42 @@
 -- What a filler of a list needs of a provider that is fine, and what it then has stored, list by list.
-use Prim.Native.Nat.{ℕ, _+_, _*_, _-_, _≤_}
+use Prim.Native.Nat.{ℕ, _+_, _*_, _≤_}
 use mathlib.Core.Path.{_≡_, refl, ap, ap₂, sym, _∙_, subst}
+use mathlib.Core.Bool.{false}
 use mathlib.Core.List.{List, [], _∷_}
 use native.Mathlib.Omega.{arith}
-use native.Mathlib.Nat.{add-zero, one-mul}
+use native.Mathlib.Nat.{one-mul}
 use lib.ListN.{length}
-use borrow.Rule.Slice.PartMut.{midOf, putMid}
+use lib.Dec.{eqb}
 use borrow.Author.Tests.{ne-eqb}
 use Rattle.blob.specs.Le.{le}
 use Rattle.blob.specs.declared.Verdict.the-variants as verdicts
 use Rattle.blob.specs.Reading.{Outcome, done, run, number, many, each, answer, verdict, values}
-use Rattle.blob.specs.Laid.{laid, flat, laid-area}
-use Rattle.blob.specs.Laws.{same, fine-value, run-after, many-count}
+use Rattle.blob.specs.Laid.{laid, flat}
+use Rattle.blob.specs.Laws.{same, fine-value, run-after, many-count, length-flat}
 use Rattle.blob.specs.Finds.{Finds, finds-got, finds-room, finds-demand, finds-next}
-use Rattle.format.specs.Area.{PROVIDERS, DESCRIPTORS, UNKNOWN2, UNKNOWN}
+use Rattle.format.specs.Area.{PROVIDERS, DESCRIPTORS, UNKNOWN2, TABLES, MAPS, UNKNOWN, width}
 use Rattle.format.specs.Definition.{guidAt, step}
-use Rattle.format.specs.Provider.{Provider, wevtAt, descriptorAt, elementAt, elementsFrom}
+use Rattle.format.specs.Provider.{Provider, Element, wevtAt, descriptorAt, elementAt, elementsFrom}
 use Rattle.format.specs.Crim.{describedAt}
 use Rattle.format.specs.Lists.{kept, unknowns, descriptorWords, unknown2Words, unknownWords}
-use Rattle.format.specs.steps.Parts.{fits, moved, next, part, passed, tableParts, walkedAll}
-use Rattle.format.specs.theorems.Grows.{passed-grows, passed-to, fits-before}
+use Rattle.format.specs.steps.Parts.{Room, Stored, part, passed, behindAll, tableParts}
+use Rattle.format.specs.theorems.Grows.{behindAll-same}
 use Rattle.format.specs.theorems.Described.{Described, described}
 use Rattle.format.specs.declared.Guid.{Guid}
 use Rattle.format.specs.declared.Wevt.{Wevt}
-use Rattle.format.specs.declared.Walk.{Walk}
 
-abbrev pub partBy : ℕ → Walk → Outcome Provider → List ℕ
-partBy l w o = answer (part l w) (λ r. []) o
+abbrev partBy : ℕ → ℕ → List ℕ → Outcome Provider → List ℕ
+partBy l n before o = answer (part l n before) (λ r. []) o
 
-abbrev pub passedBy : ℕ → Walk → Outcome Provider → Walk
-passedBy l w o = answer (passed l w) (λ r. w) o
+abbrev passedBy : ℕ → List ℕ → Outcome Provider → List ℕ
+passedBy l before o = answer (passed l before) (λ r. before) o
 
--- a list that goes over a provider's tables
-abbrev pub ofTables : ℕ → Type 0
-ofTables l = (l ≡ PROVIDERS → ⊥) × (l ≡ DESCRIPTORS → ⊥) × (l ≡ UNKNOWN2 → ⊥) × (l ≡ UNKNOWN → ⊥)
+-- an area has room for what a list has of a provider, and it was stored there
+abbrev pub ProviderRoom : ℕ → ℕ → List ℕ → Outcome Provider → List ℕ → Type 0
+ProviderRoom l n before o area = Room (partBy l n before o) (passedBy l before o) area
 
--- a walk at the next provider fits where it does, and no words further is where it is
-pub fits-next : (w : Walk) (n : ℕ) → fits (next w) n → fits w n
-fits-next w n f = (f .0, omega (arith, f .1), f .2, f .3)
-
-pub moved-none : (w : Walk) → next (moved w 0) ≡ next w
-moved-none w = simp add-zero
+abbrev pub ProviderStored : ℕ → ℕ → List ℕ → Outcome Provider → List ℕ → ℕ → List ℕ → List ℕ → Type 0
+ProviderStored l n before o area m before' area' = Stored (partBy l n before o) (passedBy l before o) area m before' area'
 
 -- an accepted header is its words
 wevt-finds : (o : ℕ) (s : List ℕ)
@@ -104,73 +100,58 @@ module _ (at : ℕ) (s : List ℕ) (v : verdict (run (describedAt at) s) ≡ ver
             ∙ d .elements;
       }
 
-  module _ (w : Walk) (n : ℕ) where
-    -- where the walk is behind the provider
-    passed-by : (l : ℕ) → passedBy l w (run (describedAt at) s) ≡ passed l w (provided at s v .0)
-    passed-by l = ap (passedBy l w) (provided at s v .1)
+  -- the elements that it has, as the code reads them
+  abbrev elements : List Element
+  elements = values (run (elementsFrom (h .descriptors) (le 4 s (at + 16) + 20)) s)
 
-    part-by : (l : ℕ) → partBy l w (run (describedAt at) s) ≡ part l w (provided at s v .0)
-    part-by l = ap (partBy l w) (provided at s v .1)
+  module _ (n : ℕ) (before area : List ℕ) where
+    abbrev Filled : ℕ → List ℕ → Type 0
+    Filled l ws =
+        (ProviderRoom l n before (run (describedAt at) s) area → length ws ≤ length area)
+        × ((m : ℕ) (area' : List ℕ) → m ≡ length ws → area' ≡ laid area 0 ws → ProviderStored l n before (run (describedAt at) s) area m before area')
 
-    -- it starts before
-    pub started : (l : ℕ) → fits (passedBy l w (run (describedAt at) s)) n → fits w n
-    started l f = fits-before w _ n (passed-grows l w (provided at s v .0)) (subst (λ (x : Walk). fits x n) (passed-by l) f)
+    part-by : (l : ℕ) → partBy l n before (run (describedAt at) s) ≡ part l n before (provided at s v .0)
+    part-by l = ap (partBy l n before) (provided at s v .1)
 
-    pub part-room : (l : ℕ) (ws : List ℕ) → partBy l w (run (describedAt at) s) ≡ ws → fits (passedBy l w (run (describedAt at) s)) n → w .to + length ws ≤ n
-    part-room l ws e f =
-        subst (λ x. x ≤ n) (ap (λ (x : Walk). x .to) (passed-by l) ∙ passed-to l w (provided at s v .0) ∙ ap (λ (q : List ℕ). w .to + length q) (sym (part-by l) ∙ e)) (f .0)
-
-    pub filled-1 : (g : Guid) → run (guidAt at) s ≡ done g
-        → (partBy PROVIDERS w (run (describedAt at) s) ≡ g .a ∷ g .b ∷ g .c ∷ g .d ∷ le 4 s (at + 16) ∷ h .size ∷ h .message ∷ h .descriptors ∷ h .unknown2 ∷ [])
-        × (passedBy PROVIDERS w (run (describedAt at) s) ≡ next (moved w 9))
-    unfolding part passed
-    filled-1 g q =
-        let x = given in
-        let e : provided at s v .0 .guid ≡ g = same _ _ (sym (provided at s v .2 .guid) ∙ q) in (
-          part-by PROVIDERS ∙ rw (e, x .offset, x .size, x .message, many-count descriptorAt (step 8) _ _ s _ (x .descriptors), many-count (number 4) (step 4) _ _ s _ (x .unknown2)) refl,
-          passed-by PROVIDERS,
+    -- a list that counts nothing
+    plain : (l : ℕ) (ws : List ℕ) → eqb l TABLES ≡ false → eqb l MAPS ≡ false → part l n before (provided at s v .0) ≡ ws → Filled l ws
+    plain l ws t m e =
+        let p = part-by l ∙ e in
+        let b = ap (passedBy l before) (provided at s v .1) ∙ behindAll-same l t m before (kept (provided at s v .0 .elements)) in (
+          λ r. omega (arith, r .fits, ap length p),
+          λ k area' c g. record { count = c ∙ sym (ap length p); behind-is = sym b; area-is = g ∙ sym (ap (laid area 0) p) },
         )
 
-    pub filled-2 : (partBy DESCRIPTORS w (run (describedAt at) s) ≡ flat descriptorWords (values (run (many descriptorAt (step 8) (h .descriptors) (le 4 s (at + 16) + 20)) s)))
-        × (passedBy DESCRIPTORS w (run (describedAt at) s) ≡ next (moved w (3 * h .descriptors)))
-    unfolding part passed
+    pub filled-1 : (g : Guid) → run (guidAt at) s ≡ done g
+        → Filled PROVIDERS (g .a ∷ g .b ∷ g .c ∷ g .d ∷ le 4 s (at + 16) ∷ h .size ∷ h .message ∷ h .descriptors ∷ h .unknown2 ∷ [])
+    unfolding part
+    filled-1 g q =
+        let x = given in
+        let e : provided at s v .0 .guid ≡ g = same _ _ (sym (provided at s v .2 .guid) ∙ q) in
+        plain PROVIDERS _ refl refl (rw (e, x .offset, x .size, x .message, many-count descriptorAt (step 8) _ _ s _ (x .descriptors), many-count (number 4) (step 4) _ _ s _ (x .unknown2)) refl)
+
+    pub filled-2 : Filled DESCRIPTORS (flat descriptorWords (values (run (many descriptorAt (step 8) (h .descriptors) (le 4 s (at + 16) + 20)) s)))
+        × (length (flat descriptorWords (values (run (many descriptorAt (step 8) (h .descriptors) (le 4 s (at + 16) + 20)) s))) ≡ width DESCRIPTORS * h .descriptors)
+    unfolding part
     filled-2 =
         let x = given in
-        (part-by DESCRIPTORS ∙ sym (ap (λ o. flat descriptorWords (values o)) (x .descriptors)), passed-by DESCRIPTORS ∙ ap (λ m. next (moved w (3 * m))) (many-count descriptorAt (step 8) _ _ s _ (x .descriptors)))
+        rw (x .descriptors) (plain DESCRIPTORS _ refl refl refl, length-flat descriptorWords (width DESCRIPTORS) (λ d. refl) (provided at s v .0 .descriptors) ∙ ap (λ m. width DESCRIPTORS * m) (many-count descriptorAt (step 8) _ _ s _ (x .descriptors)))
 
-    pub filled-3 : (partBy UNKNOWN2 w (run (describedAt at) s) ≡ flat unknown2Words (values (run (many (number 4) (step 4) (h .unknown2) (le 4 s (at + 16) + 20 + 8 * h .descriptors)) s)))
-        × (passedBy UNKNOWN2 w (run (describedAt at) s) ≡ next (moved w (h .unknown2)))
-    unfolding part passed
+    pub filled-3 : Filled UNKNOWN2 (flat unknown2Words (values (run (many (number 4) (step 4) (h .unknown2) (le 4 s (at + 16) + 20 + 8 * h .descriptors)) s)))
+        × (length (flat unknown2Words (values (run (many (number 4) (step 4) (h .unknown2) (le 4 s (at + 16) + 20 + 8 * h .descriptors)) s))) ≡ h .unknown2)
+    unfolding part
     filled-3 =
         let x = given in
-        (part-by UNKNOWN2 ∙ sym (ap (λ o. flat unknown2Words (values o)) (x .unknown2)), passed-by UNKNOWN2 ∙ ap (λ m. next (moved w m)) (one-mul _ ∙ many-count (number 4) (step 4) _ _ s _ (x .unknown2)))
+        rw (x .unknown2) (plain UNKNOWN2 _ refl refl refl, length-flat unknown2Words 1 (λ d. refl) (provided at s v .0 .unknown2) ∙ one-mul _ ∙ many-count (number 4) (step 4) _ _ s _ (x .unknown2))
 
-    pub filled-10 : (partBy UNKNOWN w (run (describedAt at) s) ≡ flat (unknownWords (w .number)) (unknowns (values (run (elementsFrom (h .descriptors) (le 4 s (at + 16) + 20)) s))))
-        × (passedBy UNKNOWN w (run (describedAt at) s) ≡ next (moved w (4 * length (unknowns (values (run (elementsFrom (h .descriptors) (le 4 s (at + 16) + 20)) s))))))
-    unfolding part passed
-    filled-10 = let x = given in rw (x .elements) (part-by UNKNOWN, passed-by UNKNOWN)
+    pub filled-10 : Filled UNKNOWN (flat (unknownWords n) (unknowns elements)) × (length (flat (unknownWords n) (unknowns elements)) ≡ width UNKNOWN * length (unknowns elements))
+    unfolding part
+    filled-10 = let x = given in rw (x .elements) (plain UNKNOWN _ refl refl refl, length-flat (unknownWords n) (width UNKNOWN) (λ u. refl) (unknowns (provided at s v .0 .elements)))
 
-    pub filled-tables : (l : ℕ) → ofTables l
-        → (partBy l w (run (describedAt at) s) ≡ tableParts l w (kept (values (run (elementsFrom (h .descriptors) (le 4 s (at + 16) + 20)) s))))
-        × (passedBy l w (run (describedAt at) s) ≡ next (walkedAll l w (kept (values (run (elementsFrom (h .descriptors) (le 4 s (at + 16) + 20)) s)))))
-    unfolding part passed
-    filled-tables l f =
+    -- a list that goes over the tables
+    pub filled-tables : (l : ℕ) → (l ≡ PROVIDERS → ⊥) → (l ≡ DESCRIPTORS → ⊥) → (l ≡ UNKNOWN2 → ⊥) → (l ≡ UNKNOWN → ⊥)
+        → (partBy l n before (run (describedAt at) s) ≡ tableParts l n before (kept elements)) × (passedBy l before (run (describedAt at) s) ≡ behindAll l before (kept elements))
+    unfolding part
+    filled-tables l a b c d =
         let x = given in
-        let i = ne-eqb l PROVIDERS (f .0) in
-        let j = ne-eqb l DESCRIPTORS (f .1) in
-        let k = ne-eqb l UNKNOWN2 (f .2) in
-        let m = ne-eqb l UNKNOWN (f .3) in
-        rw (x .elements) (part-by l ∙ rw (i, j, k, m) refl, passed-by l ∙ rw (i, j, k, m) refl)
-
-    pub tables-fit : (l : ℕ) → ofTables l → fits (passedBy l w (run (describedAt at) s)) n
-        → fits (walkedAll l w (kept (values (run (elementsFrom (h .descriptors) (le 4 s (at + 16) + 20)) s)))) n
-    tables-fit l f g =
-        fits-next (walkedAll l w (kept (values (run (elementsFrom (h .descriptors) (le 4 s (at + 16) + 20)) s)))) n (subst (λ (u : Walk). fits u n) (filled-tables l f .1) g)
-
-  -- its words, laid into what is left of the list's area, are laid into the area
-  pub area-laid : (w : Walk) (l : ℕ) (lent area ws : List ℕ) → fits (passedBy l w (run (describedAt at) s)) (length lent) → partBy l w (run (describedAt at) s) ≡ ws
-      → area ≡ laid (midOf (w .to) (length lent - w .to) lent) 0 ws
-      → putMid (w .to) (length lent - w .to) lent area ≡ laid lent (w .to) (partBy l w (run (describedAt at) s))
-  area-laid w l lent area ws f e g =
-      let b = part-room w (length lent) l ws e f in
-      laid-area lent (w .to) (length lent) ws area (omega arith) (omega arith) (omega arith) g ∙ ap (laid lent (w .to)) (sym e)
+        rw (x .elements) (part-by l ∙ rw (ne-eqb l PROVIDERS a, ne-eqb l DESCRIPTORS b, ne-eqb l UNKNOWN2 c, ne-eqb l UNKNOWN d) refl, ap (passedBy l before) (provided at s v .1))
