@@ -11,7 +11,7 @@ use borrow.Author.Tests.{leb-true}
 use Rattle.blob.specs.Reading.{Reading, done, run, many, values}
 use Rattle.blob.specs.Laid.{laid, flat}
 use Rattle.blob.specs.Laws.{both, choose-done}
-use Rattle.format.specs.Area.{Row, rows, none}
+use Rattle.format.specs.Area.{Row, rows, AREAS, none}
 use Rattle.format.specs.Definition.{step}
 use Rattle.format.specs.Provider.{Provider}
 use Rattle.format.specs.Crim.{describedAt}
@@ -20,9 +20,8 @@ use Rattle.format.specs.Answer.{moderate, areas, lent-enough, with-room, counte
 use Rattle.format.specs.steps.Needs.{needsAll}
 use Rattle.format.specs.theorems.Needed.{needed}
 use Rattle.format.specs.steps.Parts as parts
-use Rattle.format.specs.theorems.Fits.{Few, walk-fits}
+use Rattle.format.specs.theorems.Fits.{parts-wide, list-few}
 use Rattle.format.specs.theorems.Listed.{listed}
-use Rattle.format.specs.theorems.Grows.{passedAll-to}
 use Rattle.counts.specs.Short.{widths, numbers, drop-more}
 
 -- n providers, and what is read of them
@@ -48,7 +47,7 @@ list-fits (r ∷ rs) (c ∷ cs) (l ∷ ls) a b e (suc i) h g = list-fits rs cs l
 
 -- no list that has room in moderate capacities has more entries than one can be
 few-from : (rs : List Row) (cs : List ℕ) (ls : List (List Entry)) (a b : ℕ) → with-room rs cs ls a ≡ done b → moderate cs ≡ true
-    → length ls ≤ length rs → length ls ≤ length cs → Few (counted ls)
+    → length ls ≤ length rs → length ls ≤ length cs → parts.Few (counted ls)
 unfolding with-room moderate
 few-from rs cs [] a b e m h g i = omega arith
 few-from [] cs (l ∷ ls) a b e m h g i = absurd (omega arith)
@@ -62,37 +61,37 @@ few-from (r ∷ rs) (c ∷ cs) (l ∷ ls) a b e m h g (suc i) =
 pub lent-both : (cs words : List ℕ) → lent-enough cs words ≡ true → (moderate cs ≡ true) × (areas rows cs ≤ length words)
 lent-both cs words e = let b = both (moderate cs) _ e in (b .0, leb-true _ _ (b .1))
 
-module _ (cs : List ℕ) (c10 : length cs ≡ 10) (ps : List Provider) where
-  ten-lists : length (lists ps) ≡ 10
+module _ (cs : List ℕ) (cs-rows : length cs ≡ AREAS) (ps : List Provider) where
+  all-lists : length (lists ps) ≡ AREAS
   unfolding lists
-  ten-lists = refl
+  all-lists = refl
 
   module _ (m : moderate cs ≡ true) (r : roomy cs ps) where
-    pub few : Few (counted (lists ps))
-    few = few-from rows cs (lists ps) 0 0 r m (omega (arith, ten-lists)) (omega (arith, ten-lists))
+    pub few : parts.Few (counted (lists ps))
+    few = few-from rows cs (lists ps) 0 0 r m (omega (arith, all-lists)) (omega (arith, all-lists))
 
-    pub area-fits : (i : ℕ) → i < 10 → parts.fits (parts.passedAll (getD numbers i 0) parts.start ps) (getD cs i 0 * getD widths i 0)
+    -- so each list's words fit its area, and what is written behind them in each list is few
+    pub area-fits : (i : ℕ) → i < AREAS → (length (parts.parts (getD numbers i 0) 0 none ps) ≤ getD cs i 0 * getD widths i 0) × parts.Counted (parts.passedAll (getD numbers i 0) none ps)
     area-fits i h =
-        let f = walk-fits ps few i h in
         let k = list-fits {A = ℕ} rows cs (lists ps) 0 0 r i h (omega arith) in
         let w : getD widths i 0 ≤ getD widths i 0 = omega arith in
         let x = mul-le-mul k w in
-        (omega (arith, f .0, x, mul-comm (getD widths i 0) (length (getD (lists ps) i []))), f .1, f .2, f .3)
+        (omega (arith, parts-wide ps i h, x, mul-comm (getD widths i 0) (length (getD (lists ps) i []))), list-few ps few i h)
 
   -- the words once the lists of the rows behind so many are laid too
   abbrev pub filledFrom : ℕ → List ℕ → ℕ → List ℕ
   filledFrom i words at = filled words at (drop i rows) (drop i cs) (drop i (lists ps))
 
-  pub fill-step : (i : ℕ) → i < 10 → (words words' : List ℕ) (at at' : ℕ) → words' ≡ laid words at (parts.parts (getD numbers i 0) parts.start ps)
+  pub fill-step : (i : ℕ) → i < AREAS → (words words' : List ℕ) (at at' : ℕ) → words' ≡ laid words at (parts.parts (getD numbers i 0) 0 none ps)
       → at' ≡ at + getD cs i 0 * getD widths i 0 → filledFrom i words at ≡ filledFrom (i + 1) words' at'
   unfolding filled
   fill-step i h words words' at at' g t =
       let d : Row = record { number = 0; words = 0 } in
-      rw (drop-more d rows i (omega arith), drop-more 0 cs i (omega arith), drop-more [] (lists ps) i (omega (arith, ten-lists)))
+      rw (drop-more d rows i (omega arith), drop-more 0 cs i (omega arith), drop-more [] (lists ps) i (omega (arith, all-lists)))
       (ap₂ (λ (x : List ℕ) n. filled x n (drop (i + 1) rows) (drop (i + 1) cs) (drop (i + 1) (lists ps))) (ap (laid words at) (listed ps i h) ∙ sym g)
       (ap (λ w. at + getD cs i 0 * w) (sym (List·getD-map (λ (r : Row). r .words) rows i d)) ∙ sym t))
 
-  pub fill-end : (i : ℕ) → 10 ≤ i → (words : List ℕ) (at : ℕ) → filledFrom i words at ≡ words
+  pub fill-end : (i : ℕ) → AREAS ≤ i → (words : List ℕ) (at : ℕ) → filledFrom i words at ≡ words
   unfolding filled
   fill-end i h words at = rw (drop-of-length-le rows {i = i} (omega arith))
 
@@ -101,14 +100,10 @@ no-entries : (l : List Entry) → capped (length l) ≡ 0 → l ≡ []
 no-entries [] e = refl
 no-entries (x ∷ l) e = absurd (omega arith)
 
-pub no-words : (ps : List Provider) (needs : List ℕ) → needs ≡ needsAll none ps → (i : ℕ) → i < 10 → getD needs i 0 ≡ 0
-    → parts.parts (getD numbers i 0) parts.start ps ≡ []
+pub no-words : (ps : List Provider) (needs : List ℕ) → needs ≡ needsAll none ps → (i : ℕ) → i < AREAS → getD needs i 0 ≡ 0
+    → parts.parts (getD numbers i 0) 0 none ps ≡ []
 unfolding flat
 no-words ps needs e i h z =
     let n = sym (List·getD-map capped (counted (lists ps)) i 0) ∙ ap (λ (ks : List ℕ). getD ks i 0) (sym (e ∙ needed ps)) ∙ z in
     let l = ap capped (List·getD-map (λ (l : List Entry). length l) (lists ps) i []) in
     sym (listed ps i h) ∙ ap (flat (λ e. e)) (no-entries (getD (lists ps) i []) (sym l ∙ n))
-
--- where a list ends in its area
-pub parts-room : (l : ℕ) (ps : List Provider) (n : ℕ) → parts.fits (parts.passedAll l parts.start ps) n → length (parts.parts l parts.start ps) ≤ n
-parts-room l ps n f = omega (arith, f .0, passedAll-to l parts.start ps)

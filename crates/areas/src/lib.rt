@@ -2,11 +2,10 @@
 ghost use mathlib.Core.Path.{_≡_};
 ghost use mathlib.Core.Bool.{true};
 ghost use mathlib.Core.List.{[]};
-ghost use Prim.Native.Nat.{_+_, _*_, _-_, _≤_, _<_};
-ghost use lib.ListN.{length, getD};
+ghost use Prim.Native.Nat.{_+_, _*_, _-_, _≤_};
+ghost use lib.ListN.{length};
 ghost use Rattle.blob.specs.Reading.{run, verdict};
 ghost use Rattle.blob.specs.Laid.{laid};
-ghost use Rattle.counts.specs.Short.{widths, numbers};
 ghost use Rattle.format.specs.Answer as spec;
 ghost use Rattle.format.specs.Area.{rows, none};
 ghost use Rattle.format.specs.Lists.{lists};
@@ -14,8 +13,9 @@ ghost use Rattle.format.specs.steps.Needs as need;
 ghost use Rattle.format.specs.steps.Parts as parts;
 ghost use Rattle.areas.specs.Areas.{providers, providersIn, roomy};
 use blob::Verdict;
-use format::Walk;
 use format::list::AREAS;
+use format::list::NUMBERS;
+use format::list::WORDS;
 
 // Where a walk over the providers stands: the place of the next one's descriptor, and how many are left.
 pub struct Position {
@@ -43,56 +43,48 @@ impl Position {
     }
 }
 
-// Before the first entry of a list.
-fn start() -> Walk
-    ensures { λ r. ⌜ r ≡ parts.start ⌝ }
-{
-    Walk {
-        number: 0,
-        before: [0; AREAS],
-        to: 0,
-    }
-}
-
 // Stores what a list has of n providers that are fine.
 fn fill(b: &[u8], n: u32, list: u32, area: &mut [u32])
     requires { ⌜ (16 + 20 * n ≤ length (now b)) × (length (now b) ≤ 16777216) ⌝ }
     requires { ⌜ verdict (run (providers n) (now b)) ≡ Verdict.Fine ⌝ }
-    requires { ⌜ parts.fits (parts.passedAll list parts.start (providersIn n (now b))) (length (now area)) ⌝ }
-    ensures { λ _. ⌜ now (area .exit) ≡ laid (now (area .entry)) 0 (parts.parts list parts.start (providersIn n (now (b .entry)))) ⌝ }
+    requires { ⌜ parts.Room (parts.parts list 0 none (providersIn n (now b))) (parts.passedAll list none (providersIn n (now b))) (now area) ⌝ }
+    ensures { λ _. ⌜ now (area .exit) ≡ laid (now (area .entry)) 0 (parts.parts list 0 none (providersIn n (now (b .entry)))) ⌝ }
 {
     let mut p = Position::first(n);
-    let mut w = start();
+    let mut number = 0;
+    let mut before = [0; AREAS];
+    let mut to = 0;
     while 0 < p.left {
-        w = provided::fill(b, p.at, list, w, area);
+        to += provided::fill(b, p.at, list, number, &mut before, &mut area[to..]);
+        number += 1;
         p = p.next();
     }
 }
 
-// Stores the list of a row in its area, a part of the lent words that starts in their middle; hands back where it ends. A list that needs
-// nothing is not walked over.
+// Stores a list in its area, a part of the lent words that starts in their middle, of so many of them; hands back where it ends. A list
+// that needs nothing is not walked over.
 fn fill_area(
     b: &[u8],
     n: u32,
-    row: usize,
+    list: u32,
     words: &mut [u32],
     from: usize,
-    capacity: u32,
+    size: usize,
     need: u32,
 ) -> usize
     requires { ⌜ (16 + 20 * n ≤ length (now b)) × (length (now b) ≤ 16777216) ⌝ }
     requires { ⌜ verdict (run (providers n) (now b)) ≡ Verdict.Fine ⌝ }
-    requires { ⌜ (row < 10) × (from + capacity * getD widths row 0 ≤ length (now words)) ⌝ }
-    requires { ⌜ parts.fits (parts.passedAll (getD numbers row 0) parts.start (providersIn n (now b))) (capacity * getD widths row 0) ⌝ }
-    requires { ⌜ (need ≡ 0 → parts.parts (getD numbers row 0) parts.start (providersIn n (now b)) ≡ []) ⌝ }
-    ensures { λ r. ⌜ r ≡ from + capacity * getD widths row 0 ⌝ }
-    ensures { λ _. ⌜ now (words .exit) ≡ laid (now (words .entry)) from (parts.parts (getD numbers row 0) parts.start (providersIn n (now (b .entry)))) ⌝ }
+    requires { ⌜ from + size ≤ length (now words) ⌝ }
+    requires { ⌜ (length (parts.parts list 0 none (providersIn n (now b))) ≤ size) × parts.Counted (parts.passedAll list none (providersIn n (now b))) ⌝ }
+    requires { ⌜ (need ≡ 0 → parts.parts list 0 none (providersIn n (now b)) ≡ []) ⌝ }
+    ensures { λ r. ⌜ r ≡ from + size ⌝ }
+    ensures { λ _. ⌜ now (words .exit) ≡ laid (now (words .entry)) from (parts.parts list 0 none (providersIn n (now (b .entry)))) ⌝ }
 {
-    let to = from + counts::words_of(capacity, row);
+    let to = from + size;
     if need == 0 {
         return to;
     }
-    fill(b, n, counts::number_of(row), &mut words[from..to]);
+    fill(b, n, list, &mut words[from..to]);
     to
 }
 
@@ -110,10 +102,14 @@ pub fn fill_areas(
     requires { ⌜ roomy capacities (providersIn n (now b)) ⌝ }
     ensures { λ _. ⌜ now (words .exit) ≡ spec.filled (now (words .entry)) 0 rows capacities (lists (providersIn n (now (b .entry)))) ⌝ }
 {
+    // The tables once, outside the loop: a constant array is made anew wherever it is read.
+    let numbers = NUMBERS;
+    let widths = WORDS;
     let mut i = 0;
     let mut to = 0;
     while i < AREAS {
-        to = fill_area(b, n, i, words, to, capacities[i], needs[i]);
+        let size = (capacities[i] as usize) * widths[i];
+        to = fill_area(b, n, numbers[i], words, to, size, needs[i]);
         i += 1;
     }
 }

@@ -25,10 +25,10 @@ use Rattle.format.specs.theorems.Described.{Described, described}
 use Rattle.format.specs.declared.Guid.{Guid}
 use Rattle.format.specs.declared.Wevt.{Wevt}
 
-abbrev partBy : ℕ → ℕ → List ℕ → Outcome Provider → List ℕ
+abbrev pub partBy : ℕ → ℕ → List ℕ → Outcome Provider → List ℕ
 partBy l n before o = answer (part l n before) (λ r. []) o
 
-abbrev passedBy : ℕ → List ℕ → Outcome Provider → List ℕ
+abbrev pub passedBy : ℕ → List ℕ → Outcome Provider → List ℕ
 passedBy l before o = answer (passed l before) (λ r. before) o
 
 -- an area has room for what a list has of a provider, and it was stored there

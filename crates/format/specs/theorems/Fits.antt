@@ -18,7 +18,7 @@ use Rattle.format.specs.Provider.{Rows, Table, Provider}
 use Rattle.format.specs.Lists.{Entry, providerWords, descriptorWords, unknown2Words, definitionWords, eventWords, mapEntryWords, templateWords, unknownWords, kept, unknowns, Owned, ownedTables, ownedUnknowns, after, tableEntries, definitionsIn, eventsIn, mapsIn, templatesIn, mapList, lists}
 use Rattle.format.specs.Answer.{counted, capped}
 use Rattle.format.specs.steps.Needs.{afterAll, of-tables, entriesIn, has, needsAll}
-use Rattle.format.specs.steps.Parts.{Few, Room, behindAll, parts, passedAll}
+use Rattle.format.specs.steps.Parts.{Few, Counted, behindAll, parts, passedAll}
 use Rattle.format.specs.theorems.Grows.{behindAll-same, behindAll-length, passedAll-tables}
 use Rattle.format.specs.theorems.Listed.{itemized, lists-itemized, First, first, number, listed}
 use Rattle.format.specs.theorems.Needed.{total, total-length, after-all, entries-count, counted-has, needed}
@@ -208,8 +208,6 @@ module _ (ps : List Provider) (f : Few (counted (lists ps))) where
           rw (behindAll-same l e g none (tables ps))
           (each-few none (none-few, (none-few, (none-few, (none-few, (none-few, (none-few, (none-few, (none-few, (none-few, (none-few, tt)))))))))))
 
-  -- a list has room in an area of its words, and what is written behind it in each list is few
-  pub list-room : (i : ℕ) → i < length rows → (area : List ℕ) → words i * length (getD (lists ps) i []) ≤ length area
-      → Room (parts (number i) 0 none ps) (passedAll (number i) none ps) area
-  list-room i h area r =
-      record { fits = omega (arith, parts-wide ps i h); few = rw (passedAll-tables (number i) none ps) (few-behind (number i), behindAll-length (number i) none (tables ps)) }
+  -- what is written in each list behind all providers
+  pub list-few : (i : ℕ) → i < length rows → Counted (passedAll (number i) none ps)
+  list-few i h = rw (passedAll-tables (number i) none ps) (few-behind (number i), behindAll-length (number i) none (tables ps))
