@@ -15,7 +15,8 @@ use Rattle.format.specs.Area.{rows, none}
 use Rattle.format.specs.Answer.{moderate, with-room, counted, capped}
 use Rattle.format.specs.steps.Needs.{needsAll}
 use Rattle.format.specs.theorems.Needed.{needed}
-use Rattle.format.specs.theorems.Fits.{Few, few-uncapped}
+use Rattle.format.specs.steps.Parts.{Few}
+use Rattle.format.specs.theorems.Fits.{few-uncapped}
 use Rattle.format.specs.declared.CrimHeader.{CrimHeader}
 use Rattle.counts.specs.Short.{short}
 use Rattle.areas.specs.Areas.{providers, providersIn, roomy, few}
