@@ -6,6 +6,7 @@ ghost use Rattle.blob.specs.Reading.{run, done, verdict, values, many};
 ghost use Rattle.format.specs.Definition.{step};
 ghost use Rattle.format.specs.Table.{kindOf, header-length};
 ghost use Rattle.format.specs.Provider.{descriptorAt, unknownAt, eventsAt, tableAt, elementOf, elementsFrom};
+ghost use Rattle.element.specs.Signatures as spec;
 ghost use Rattle.element.specs.Checked.{without-entries};
 ghost use Rattle.element.specs.Places.{placed};
 ghost use Rattle.element.specs.Counted.{none, elementsRead, neededFor};
@@ -37,10 +38,30 @@ use format::signature;
 // Where a provider keeps no table of a kind: no place of a blob.
 pub const NONE: u32 = 4294967295;
 
+// The one known signature that a signature can be: each has its own of eight cells. One comparison then tells those that name no kind.
+fn named(signature: u32) -> u32
+    ensures { λ r. ⌜ r ≡ spec.named signature ⌝ }
+{
+    let cell = (signature as u64) * 29 / 4194304 % 8;
+    match cell {
+        0 => signature::MAPS,
+        1 => signature::TASK,
+        2 => signature::OPCO,
+        3 => signature::EVNT,
+        4 => signature::KEYW,
+        5 => signature::CHAN,
+        6 => signature::TTBL,
+        _ => signature::LEVL,
+    }
+}
+
 // The kind that a signature names; 0 for none.
 pub fn kind_of(signature: u32) -> u32
     ensures { λ r. ⌜ (r ≡ kindOf signature) × (r ≤ 8) ⌝ }
 {
+    if signature != named(signature) {
+        return 0;
+    }
     match signature {
         signature::CHAN => CHAN,
         signature::EVNT => EVNT,
