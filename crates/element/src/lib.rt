@@ -19,7 +19,6 @@ use format::EntriesRead;
 use format::Header;
 use format::HeaderRead;
 use format::Needed;
-use format::field::PROVIDER_ELEMENT_OFFSET;
 use format::field::UNKNOWN_ELEMENT_END;
 use format::field::UNKNOWN_ELEMENT_HEADER;
 use format::kind::CHAN;
@@ -85,22 +84,19 @@ fn in_word(n: usize) -> usize
     4294967295
 }
 
-// Whether an element of no known kind is fine. It has no map entries.
-fn check_unknown(b: &[u8], at: usize) -> EntriesRead
-    requires { ⌜ length (now b) ≤ 16777216 ⌝ }
-    ensures { λ r. ⌜ r ≡ elementRead (run (unknownAt at) (now (b .entry))) ⌝ }
+// Whether an element of no known kind is fine, whose signature lies in the blob.
+fn check_unknown(b: &[u8], at: usize) -> Verdict
+    requires { ⌜ (at + 4 ≤ length (now b)) × (length (now b) ≤ 16777216) ⌝ }
+    ensures { λ r. ⌜ r ≡ verdict (run (unknownAt at) (now (b .entry))) ⌝ }
 {
-    if b.len() < at {
-        return EntriesRead::Refused(bounds::offset_out(b.len(), PROVIDER_ELEMENT_OFFSET, at));
-    }
     if b.len() - at < 8 {
-        return EntriesRead::Refused(bounds::truncated(b.len(), UNKNOWN_ELEMENT_HEADER, at, 8));
+        return Verdict::Refused(bounds::truncated(b.len(), UNKNOWN_ELEMENT_HEADER, at, 8));
     }
     let end = at + blob::word(b, at + 4) as usize;
     if b.len() < end {
-        return EntriesRead::Refused(bounds::offset_out(b.len(), UNKNOWN_ELEMENT_END, in_word(end)));
+        return Verdict::Refused(bounds::offset_out(b.len(), UNKNOWN_ELEMENT_END, in_word(end)));
     }
-    EntriesRead::Entries(0)
+    Verdict::Fine
 }
 
 // What a verdict is where there are no map entries.
@@ -137,14 +133,11 @@ fn check_table(b: &[u8], kind: u32, at: usize, h: Header) -> EntriesRead
     }
 }
 
-// Whether the element of a kind at a place is fine, and how many map entries it has.
+// Whether the element of a known kind at a place is fine, and how many map entries it has.
 fn check_element(b: &[u8], kind: u32, at: usize) -> EntriesRead
-    requires { ⌜ (kind ≤ 8) × (length (now b) ≤ 16777216) ⌝ }
+    requires { ⌜ (1 ≤ kind) × (kind ≤ 8) × (length (now b) ≤ 16777216) ⌝ }
     ensures { λ r. ⌜ r ≡ elementRead (run (elementOf kind at) (now (b .entry))) ⌝ }
 {
-    if kind == 0 {
-        return check_unknown(b, at);
-    }
     match table::header_at(b, kind, at) {
         HeaderRead::Refused(r) => EntriesRead::Refused(r),
         HeaderRead::Header(h) => check_table(b, kind, at, h),
@@ -200,18 +193,22 @@ fn check_elements(b: &[u8], start: usize, n: u32) -> Elements
     while 0 < left {
         let d = descriptor_of(b, at);
         let kind = kind_of(d.signature);
-        match check_element(b, kind, d.offset as usize) {
-            EntriesRead::Refused(r) => return refused(r),
-            EntriesRead::Entries(e) => {
-                if kind == 0 {
-                    unknown += 1;
-                }
-                if kind == MAPS {
-                    entries = e;
+        if kind == 0 {
+            if let Verdict::Refused(r) = check_unknown(b, d.offset as usize) {
+                return refused(r);
+            }
+            unknown += 1;
+        } else {
+            match check_element(b, kind, d.offset as usize) {
+                EntriesRead::Refused(r) => return refused(r),
+                EntriesRead::Entries(e) => {
+                    if kind == MAPS {
+                        entries = e;
+                    }
                 }
             }
+            places[kind as usize] = d.offset;
         }
-        places[kind as usize] = d.offset;
         at += 8;
         left -= 1;
     }
