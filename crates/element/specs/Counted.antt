@@ -68,15 +68,14 @@ pub read-none : (s : List ℕ) (left at u n : ℕ) (ps : List ℕ) → left ≤ 
 unfolding unknowns lastOf known placed
 read-none s left at u n ps h = ap (readFrom u n ps) (from-none s left at h) ∙ (let e : u + 0 ≡ u = omega arith in rw e)
 
--- what the answer for an element tells of its reading
-is-fine : (o : Outcome Element) (x : ℕ) → entries.Entries x ≡ elementRead o → (e : Element) × (o ≡ done e) × (x ≡ capped (entriesOf e))
-is-fine (done e) x h = (e, refl, cc)
-is-fine (refused r) x h = absurd (let z : _≡_ {A = ℕ} 0 1 = cc in omega arith)
-
--- a verdict that is a refusal is that of its reading
+-- what a verdict, and the answer for an element, tell of their readings
 pub has-refused : {A : Type 0} (o : Outcome A) (r : Refusal) → verdicts.Refused r ≡ verdict o → o ≡ refused r
 has-refused (done a) r h = absurd (not-fine r h)
 has-refused (refused q) r h = cc
+
+is-fine : (o : Outcome Element) (x : ℕ) → entries.Entries x ≡ elementRead o → (e : Element) × (o ≡ done e) × (x ≡ capped (entriesOf e))
+is-fine (done e) x h = (e, refl, cc)
+is-fine (refused r) x h = absurd (let z : _≡_ {A = ℕ} 0 1 = cc in omega arith)
 
 pub is-refused : (o : Outcome Element) (r : Refusal) → entries.Refused r ≡ elementRead o → o ≡ refused r
 is-refused (done e) r h = absurd (let z : _≡_ {A = ℕ} 0 1 = cc in omega arith)
@@ -113,11 +112,11 @@ module _ (s : List ℕ) (d : Descriptor) (e : Element) (i : run (elementAt d) s 
       let t = is-table s k (d .offset) e one (rw (sym q) at (kind-most (d .signature))) (rw (sym q) at i) in
       rw (p, t .1, last-table held n MAPS (t .0) es, t .3 .kind, t .2)
 
+-- The next element: a refusal, one of no known kind, and a table.
 pub as-unknown : (k at : ℕ) (s : List ℕ) → k ≡ 0 → run (elementOf k at) s ≡ run (unknownAt at) s
 unfolding elementOf
 as-unknown k at s z = rw z
 
--- The next element: a refusal, one of no known kind, and a table.
 module _ (s : List ℕ) (left at : ℕ) (h : 0 < left) (d : Descriptor) (found : run (descriptorAt at) s ≡ done d) (k : ℕ) (q : k ≡ kindOf (d .signature)) (u n : ℕ) (ps : List ℕ) where
   same-element : run (elementAt d) s ≡ run (elementOf k (d .offset)) s
   unfolding elementAt
