@@ -12,7 +12,7 @@ use Rattle.blob.specs.declared.Verdict.the-variants as verdicts
 use Rattle.blob.specs.Reading.{Reading, got, Outcome, done, refused, run, _>>=_, then, verdict}
 use Rattle.blob.specs.Laws.{run-number, run-room, run-past, run-got, run-bind, run-after, run-stopped, fine-done}
 use Rattle.event.specs.Events.{events-fine}
-use Rattle.format.specs.Field.{provider-element-offset, unknown-element-header, unknown-element-end}
+use Rattle.format.specs.Field.{unknown-element-header, unknown-element-end}
 use Rattle.format.specs.Refuse.{offset-out, truncated}
 use Rattle.format.specs.Region.{endRead}
 use Rattle.format.specs.theorems.Ends.{is-place, no-end}
@@ -44,27 +44,20 @@ no-header : (o : Outcome Header) (r : Refusal) → headers.Refused r ≡ headerR
 no-header (done g) r e = absurd (let z : _≡_ {A = ℕ} 0 1 = cc in omega arith)
 no-header (refused q) r e = cc
 
--- an element of no known kind
-module _ (at : ℕ) (s : List ℕ) where
-  pub unknown-past : length s < at → run (unknownAt at) s ≡ refused (offset-out provider-element-offset at .told (length s))
+-- an element of no known kind, whose signature lies in the blob
+module _ (at : ℕ) (s : List ℕ) (i : at ≤ length s) where
+  pub unknown-short : length s < at + 8 → run (unknownAt at) s ≡ refused (truncated unknown-element-header at 8 .told (length s))
   unfolding unknownAt
-  unknown-past h = rw run-past
-
-  pub unknown-short : at ≤ length s → length s < at + 8 → run (unknownAt at) s ≡ refused (truncated unknown-element-header at 8 .told (length s))
-  unfolding unknownAt
-  unknown-short h g = rw (run-room, run-past)
+  unknown-short g = rw (run-room, run-past)
 
   module _ (h : at + 8 ≤ length s) (e : ℕ) (ends : e ≡ at + le 4 s (at + 4)) where
-    here : at ≤ length s
-    here = omega arith
-
     pub unknown-out : length s < e → run (unknownAt at) s ≡ refused (offset-out unknown-element-end (min e 4294967295) .told (length s))
     unfolding unknownAt
-    unknown-out g = let i = here in rw (run-room, run-room, run-number, run-number, ← ends, run-past)
+    unknown-out g = rw (run-room, run-room, run-number, run-number, ← ends, run-past)
 
-    pub unknown-fine : e ≤ length s → elementRead (run (unknownAt at) s) ≡ entries.Entries 0
+    pub unknown-fine : e ≤ length s → verdict (run (unknownAt at) s) ≡ verdicts.Fine
     unfolding unknownAt
-    unknown-fine g = let i = here in rw (run-room, run-room, run-number, run-number, ← ends, run-room, run-got)
+    unknown-fine g = rw (run-room, run-room, run-number, run-number, ← ends, run-room, run-got)
 
 -- an EVNT whose end is known
 module _ (at : ℕ) (h : Header) (s : List ℕ) where
@@ -109,28 +102,23 @@ module _ (k at : ℕ) (h : Header) (s : List ℕ) where
   pub checks-definitions : (k ≡ EVNT → ⊥) → (k ≡ MAPS → ⊥) → (k ≡ TTBL → ⊥) → without-entries (verdict (run (definitionsAt k at h) s)) ≡ tableRead (run (tableAt k at h) s)
   checks-definitions e m t = without-maps k at h s definitions (λ ds. refl) _ ∙ ap (λ r. tableRead (run r s)) (sym (as-definitions k at h e m t))
 
--- an element, by its kind and by what was found of its header
-module _ (k at : ℕ) (s : List ℕ) where
-  pub checks-unknown : k ≡ 0 → elementRead (run (unknownAt at) s) ≡ elementRead (run (elementOf k at) s)
+-- an element of a known kind, by what was found of its header
+module _ (k at : ℕ) (s : List ℕ) (known : 1 ≤ k) where
+  pub checks-refused : (r : Refusal) → headers.Refused r ≡ headerRead (run (headerAt k at) s) → entries.Refused r ≡ elementRead (run (elementOf k at) s)
   unfolding elementOf
-  checks-unknown e = rw e
+  checks-refused r f = rw (ne-eqb k 0 (λ z. omega arith)) (sym (ap elementRead (run-stopped _ _ s r (no-header _ r f))))
 
-  module _ (known : k ≡ 0 → ⊥) where
-    pub checks-refused : (r : Refusal) → headers.Refused r ≡ headerRead (run (headerAt k at) s) → entries.Refused r ≡ elementRead (run (elementOf k at) s)
-    unfolding elementOf
-    checks-refused r f = rw (ne-eqb k 0 known) (sym (ap elementRead (run-stopped _ _ s r (no-header _ r f))))
+  module _ (h : Header) (f : headers.Header h ≡ headerRead (run (headerAt k at) s)) where
+    pub checks-table : tableRead (run (tableAt k at h) s) ≡ elementRead (run (elementOf k at) s)
+    unfolding elementOf then run
+    checks-table = rw (ne-eqb k 0 (λ z. omega arith)) (go (run (tableAt k at h) s) ∙ sym (ap elementRead (run-after _ _ s h (is-header _ h f) ∙ run-bind _ _ s)))
+      where
+        go : (o : Outcome Table) → tableRead o ≡ elementRead (then o (λ t. done (table t)))
+        go (done t) = refl
+        go (refused q) = refl
 
-    module _ (h : Header) (f : headers.Header h ≡ headerRead (run (headerAt k at) s)) where
-      pub checks-table : tableRead (run (tableAt k at h) s) ≡ elementRead (run (elementOf k at) s)
-      unfolding elementOf then run
-      checks-table = rw (ne-eqb k 0 known) (go (run (tableAt k at h) s) ∙ sym (ap elementRead (run-after _ _ s h (is-header _ h f) ∙ run-bind _ _ s)))
-        where
-          go : (o : Outcome Table) → tableRead o ≡ elementRead (then o (λ t. done (table t)))
-          go (done t) = refl
-          go (refused q) = refl
-
-      pub header-fits : at + header-length k ≤ length s
-      header-fits = header-words s k at h (is-header _ h f) .0
+    pub header-fits : at + header-length k ≤ length s
+    header-fits = header-words s k at h (is-header _ h f) .0
 
 -- a record of definitions has at least 12 bytes
 pub record-least : (k : ℕ) → 1 ≤ k → k ≤ 8 → (k ≡ MAPS → ⊥) → (k ≡ TTBL → ⊥) → 12 ≤ stride k

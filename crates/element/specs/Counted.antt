@@ -1,12 +1,11 @@
 -- What is counted of a provider's elements: those of no known kind, and the map entries of the last MAPS.
-use Prim.Native.Nat.{ℕ, _+_, _-_, _≤_, _<_}
-use mathlib.Core.Path.{_≡_, refl, ap, ap₂, sym, _∙_}
+use Prim.Native.Nat.{ℕ, suc, _+_, _-_, _≤_, _<_}
+use mathlib.Core.Path.{_≡_, refl, ap, sym, _∙_}
 use mathlib.Core.Bool.{Bool, true, false}
 use mathlib.Core.List.{List, [], _∷_, _++_, map}
 use native.Mathlib.Omega.{arith}
-use lib.ListN.{length, set, replicate}
+use lib.ListN.{length, set}
 use lib.Dec.{eqb}
-use borrow.Author.Tests.{eqb-true, eqb-false}
 use Rattle.blob.specs.Le.{le}
 use Rattle.blob.specs.Laid.{flat}
 use Rattle.blob.specs.declared.Refusal.{Refusal}
@@ -14,7 +13,7 @@ use Rattle.blob.specs.declared.Verdict.the-variants as verdicts
 use Rattle.blob.specs.Reading.{Outcome, done, refused, choose, run, many, answer, verdict, values}
 use Rattle.format.specs.Table.{CHAN, EVNT, KEYW, LEVL, MAPS, OPCO, TASK, TTBL, kindOf}
 use Rattle.format.specs.Definition.{step}
-use Rattle.format.specs.Provider.{Table, Element, table, unknown, descriptorAt, elementOf, elementAt, elementsFrom}
+use Rattle.format.specs.Provider.{Table, Element, table, unknown, descriptorAt, unknownAt, elementOf, elementAt, elementsFrom}
 use Rattle.format.specs.Lists.{lastOf, or-else, kept, unknowns, definitionsIn, eventsIn, mapsIn, templatesIn}
 use Rattle.format.specs.Answer.{capped}
 use Rattle.format.specs.Area as area
@@ -24,32 +23,29 @@ use Rattle.format.specs.declared.EntriesRead.the-variants as entries
 use Rattle.format.specs.declared.Needed.{Needed}
 use Rattle.element.specs.declared.Elements.{Elements}
 use Rattle.element.specs.Tables.{kind-most, is-unknown, is-table, kept-one}
-use Rattle.element.specs.Elements.{from-none, from-stop, from-told, lastOr, last-here, last-other}
-use Rattle.element.specs.Places.{placed, placed-one}
+use Rattle.element.specs.Elements.{from-none, from-stop, from-told, lastOr, last-table}
+use Rattle.element.specs.Places.{nowhere, placed, known, Standing, standing}
 use Rattle.element.specs.Sums.{grownAll, grown-all}
 use Rattle.format.specs.theorems.Needed.{after-all, entries-all}
-use Rattle.blob.specs.Laws.{not-fine}
+use Rattle.blob.specs.Laws.{not-fine, fine-value}
 use native.Mathlib.Nat.{zero-add}
 
 -- the map entries of a table, as far as they are counted
 abbrev pub held : Table → ℕ
 held t = capped (entryCount (mapsIn (t .rows)))
 
--- what the code answers for a provider's elements: no place where none is kept
-abbrev pub nowhere : List ℕ
-nowhere = replicate 9 4294967295
-
+-- what the code answers for a provider's elements: no place where no table is kept
 abbrev pub none : Refusal → Elements
 none r = record { verdict = verdicts.Refused r; unknown = 0; entries = 0; places = nowhere }
 
 abbrev pub elementsRead : Outcome (List Element) → Elements
 elementsRead o =
-    answer (λ es. record { verdict = verdicts.Fine; unknown = length (unknowns es); entries = capped (entriesAll 0 (lastOf MAPS es)); places = placed nowhere es }) none o
+    answer (λ es. record { verdict = verdicts.Fine; unknown = length (unknowns es); entries = capped (entriesAll 0 (lastOf MAPS es)); places = placed nowhere (known es) }) none o
 
 -- and once so many elements of no known kind were counted, and so many entries of the last MAPS, and these places were known
 abbrev pub readFrom : ℕ → ℕ → List ℕ → Outcome (List Element) → Elements
 readFrom u n ps o =
-    answer (λ es. record { verdict = verdicts.Fine; unknown = u + length (unknowns es); entries = lastOr held n (lastOf MAPS es); places = placed ps es }) none o
+    answer (λ es. record { verdict = verdicts.Fine; unknown = u + length (unknowns es); entries = lastOr held n (lastOf MAPS es); places = placed ps (known es) }) none o
 
 held-last : (k : ℕ) (es : List Element) → capped (entriesAll 0 (lastOf k es)) ≡ lastOr held 0 (lastOf k es)
 unfolding lastOf entriesAll
@@ -69,15 +65,19 @@ read-all (refused r) = refl
 
 pub read-none : (s : List ℕ) (left at u n : ℕ) (ps : List ℕ) → left ≤ 0
     → readFrom u n ps (run (elementsFrom left at) s) ≡ record { verdict = verdicts.Fine; unknown = u; entries = n; places = ps }
-unfolding unknowns lastOf placed
+unfolding unknowns lastOf known placed
 read-none s left at u n ps h = ap (readFrom u n ps) (from-none s left at h) ∙ (let e : u + 0 ≡ u = omega arith in rw e)
 
--- what the answer for an element tells of its reading
+-- what a verdict, and the answer for an element, tell of their readings
+pub has-refused : {A : Type 0} (o : Outcome A) (r : Refusal) → verdicts.Refused r ≡ verdict o → o ≡ refused r
+has-refused (done a) r h = absurd (not-fine r h)
+has-refused (refused q) r h = cc
+
 is-fine : (o : Outcome Element) (x : ℕ) → entries.Entries x ≡ elementRead o → (e : Element) × (o ≡ done e) × (x ≡ capped (entriesOf e))
 is-fine (done e) x h = (e, refl, cc)
 is-fine (refused r) x h = absurd (let z : _≡_ {A = ℕ} 0 1 = cc in omega arith)
 
-is-refused : (o : Outcome Element) (r : Refusal) → entries.Refused r ≡ elementRead o → o ≡ refused r
+pub is-refused : (o : Outcome Element) (r : Refusal) → entries.Refused r ≡ elementRead o → o ≡ refused r
 is-refused (done e) r h = absurd (let z : _≡_ {A = ℕ} 0 1 = cc in omega arith)
 is-refused (refused q) r h = cc
 
@@ -99,39 +99,47 @@ module _ (s : List ℕ) (d : Descriptor) (e : Element) (i : run (elementAt d) s 
       rw (is-table s _ (d .offset) e one (kind-most (d .signature)) i .1)
 
   -- the counts before an element are those behind it
-  counts : (u n x k : ℕ) (ps : List ℕ) → k ≡ kindOf (d .signature) → x ≡ capped (entriesOf e) → readFrom u n ps (done (e ∷ es))
-      ≡ readFrom (u + choose (eqb k 0) 1 0) (choose (eqb k MAPS) x n) (set ps k (d .offset)) (done es)
-  counts u n x k ps q p =
-      λ i. record { verdict = verdicts.Fine; unknown = first (eqb k 0) refl i; entries = second (eqb k MAPS) refl i; places = placed-one s d e i' ps es k (sym q) i }
-    where
-      i' : run (elementAt d) s ≡ done e
-      i' = i
+  unknown-counts : (u n : ℕ) (ps : List ℕ) → kindOf (d .signature) ≡ 0 → readFrom u n ps (done (e ∷ es)) ≡ readFrom (u + 1) n ps (done es)
+  unfolding elementAt unknowns lastOf known
+  unknown-counts u n ps q =
+      let z : u + suc (length (unknowns es)) ≡ u + 1 + length (unknowns es) = omega arith in
+      rw (is-unknown s (d .offset) e (rw q at i) .0, z)
 
-      first : (b : Bool) → eqb k 0 ≡ b → u + length (unknowns (e ∷ es)) ≡ (u + choose b 1 0) + length (unknowns es)
-      first true g = omega (arith, ap length (unknown-here (sym q ∙ eqb-true k 0 g)))
-      first false g = omega (arith, ap length (unknown-other (λ z. eqb-false k 0 g (q ∙ z))))
+  table-counts : (u n x k : ℕ) (ps : List ℕ) → 1 ≤ k → k ≡ kindOf (d .signature) → x ≡ capped (entriesOf e)
+      → readFrom u n ps (done (e ∷ es)) ≡ readFrom u (choose (eqb k MAPS) x n) (set ps k (d .offset)) (done es)
+  unfolding elementAt unknowns known placed
+  table-counts u n x k ps one q p =
+      let t = is-table s k (d .offset) e one (rw (sym q) at (kind-most (d .signature))) (rw (sym q) at i) in
+      rw (p, t .1, last-table held n MAPS (t .0) es, t .3 .kind, t .2)
 
-      second : (b : Bool) → eqb k MAPS ≡ b → lastOr held n (lastOf MAPS (e ∷ es)) ≡ lastOr held (choose b x n) (lastOf MAPS es)
-      second true g = last-here held n MAPS s d e i (omega arith) (sym q ∙ eqb-true k MAPS g) x (λ t et o. sym (p ∙ ap (λ y. capped (entriesOf y)) et)) es
-      second false g = last-other held n MAPS s d e i (omega arith) (λ z. eqb-false k MAPS g (q ∙ z)) es
+-- The next element: a refusal, one of no known kind, and a table.
+pub as-unknown : (k at : ℕ) (s : List ℕ) → k ≡ 0 → run (elementOf k at) s ≡ run (unknownAt at) s
+unfolding elementOf
+as-unknown k at s z = rw z
 
-module _ (s : List ℕ) (left at : ℕ) (h : 0 < left) (d : Descriptor) (found : run (descriptorAt at) s ≡ done d) (k : ℕ) (q : k ≡ kindOf (d .signature)) where
-  same-element : run (elementOf k (d .offset)) s ≡ run (elementAt d) s
+module _ (s : List ℕ) (left at : ℕ) (h : 0 < left) (d : Descriptor) (found : run (descriptorAt at) s ≡ done d) (k : ℕ) (q : k ≡ kindOf (d .signature)) (u n : ℕ) (ps : List ℕ) where
+  same-element : run (elementAt d) s ≡ run (elementOf k (d .offset)) s
   unfolding elementAt
   same-element = rw q
 
-  pub read-stop : (u n : ℕ) (ps : List ℕ) (r : Refusal) → entries.Refused r ≡ elementRead (run (elementOf k (d .offset)) s)
-      → verdict (run (many descriptorAt (step 8) left at) s) ≡ verdicts.Fine → readFrom u n ps (run (elementsFrom left at) s) ≡ none r
-  read-stop u n ps r f v = ap (readFrom u n ps) (from-stop s left at h d found r (sym same-element ∙ is-refused _ r f) v)
+  pub read-stop : (r : Refusal) → run (elementOf k (d .offset)) s ≡ refused r → verdict (run (many descriptorAt (step 8) left at) s) ≡ verdicts.Fine
+      → readFrom u n ps (run (elementsFrom left at) s) ≡ none r
+  read-stop r f v = ap (readFrom u n ps) (from-stop s left at h d found r (same-element ∙ f) v)
 
-  pub read-more : (u n x u' n' : ℕ) (ps : List ℕ) → entries.Entries x ≡ elementRead (run (elementOf k (d .offset)) s)
-      → u' ≡ u + choose (eqb k 0) 1 0 → n' ≡ choose (eqb k MAPS) x n
-      → readFrom u n ps (run (elementsFrom left at) s) ≡ readFrom u' n' (set ps k (d .offset)) (run (elementsFrom (left - 1) (at + 8)) s)
-  read-more u n x u' n' ps f eu en =
+  pub read-unknown : k ≡ 0 → verdict (run (unknownAt (d .offset)) s) ≡ verdicts.Fine
+      → readFrom u n ps (run (elementsFrom left at) s) ≡ readFrom (u + 1) n ps (run (elementsFrom (left - 1) (at + 8)) s)
+  read-unknown z f =
+      let e = fine-value _ f in
+      let i = same-element ∙ as-unknown k _ s z ∙ e .1 in
+      from-told s left at h d found (readFrom u n ps) (readFrom (u + 1) n ps) (e .0) (λ es. unknown-counts s d (e .0) i es u n ps (sym q ∙ z)) (λ r. refl) i
+
+  pub read-table : 1 ≤ k → (x n' : ℕ) → entries.Entries x ≡ elementRead (run (elementOf k (d .offset)) s) → n' ≡ choose (eqb k MAPS) x n
+      → readFrom u n ps (run (elementsFrom left at) s) ≡ readFrom u n' (set ps k (d .offset)) (run (elementsFrom (left - 1) (at + 8)) s)
+  read-table one x n' f en =
       let e = is-fine _ x f in
-      let i = sym same-element ∙ e .1 in
-      rw (eu, en) (from-told s left at h d found (readFrom u n ps) (readFrom (u + choose (eqb k 0) 1 0) (choose (eqb k MAPS) x n) (set ps k (d .offset))) (e .0)
-      (λ es. counts s d (e .0) i es u n x k ps q (e .2)) (λ r. refl) i)
+      let i = same-element ∙ e .1 in
+      rw en (from-told s left at h d found (readFrom u n ps) (readFrom u (choose (eqb k MAPS) x n) (set ps k (d .offset))) (e .0)
+      (λ es. table-counts s d (e .0) i es u n x k ps one q (e .2)) (λ r. refl) i)
 
 -- Of the kept tables only the MAPS has map entries.
 entries-append : (n : ℕ) (xs ys : List Table) → entriesAll n (xs ++ ys) ≡ entriesAll (entriesAll n xs) ys
@@ -186,11 +194,11 @@ neededFor o =
 -- what the answer for the elements tells of their reading
 pub is-elements : (o : Outcome (List Element)) (e : Elements) → e ≡ elementsRead o → e .verdict ≡ verdicts.Fine
     → (verdict o ≡ verdicts.Fine)
-    × (e .places ≡ placed nowhere (values o))
+    × Standing (e .places) (values o)
     × (e .entries ≡ capped (entriesAll 0 (lastOf MAPS (values o))))
     × (e .unknown ≡ length (unknowns (values o)))
 is-elements (done es) e h f =
-    (refl, ap (λ (x : Elements). x .places) h, ap (λ (x : Elements). x .entries) h, ap (λ (x : Elements). x .unknown) h)
+    (refl, rw h (standing es), ap (λ (x : Elements). x .entries) h, ap (λ (x : Elements). x .unknown) h)
 is-elements (refused r) e h f = absurd (not-fine r (sym (ap (λ (x : Elements). x .verdict) h) ∙ f))
 
 pub no-elements : (o : Outcome (List Element)) (e : Elements) (r : Refusal) → e ≡ elementsRead o → e .verdict ≡ verdicts.Refused r → o ≡ refused r

@@ -1,24 +1,20 @@
 -- A provider's elements, descriptor by descriptor: what the next one makes of those that are left.
-use Prim.Native.Nat.{ℕ, zero, suc, _+_, _-_, _≤_, _<_}
+use Prim.Native.Nat.{ℕ, _+_, _-_, _≤_, _<_}
 use mathlib.Core.Path.{_≡_, refl, ap, sym, _∙_}
 use mathlib.Core.Bool.{Bool, true, false}
 use mathlib.Core.List.{List, [], _∷_}
-use native.Mathlib.Omega.{arith}
 use lib.ListN.{length}
 use lib.Dec.{eqb}
-use borrow.Author.Tests.{eq-eqb, ne-eqb}
 use Rattle.blob.specs.Le.{le}
 use Rattle.blob.specs.declared.Refusal.{Refusal}
 use Rattle.blob.specs.declared.Verdict.the-variants as verdicts
 use Rattle.blob.specs.Reading.{Outcome, done, refused, choose, run, many, each, then, verdict, values}
 use Rattle.blob.specs.Laws.{fine-value, run-bind, run-after, not-fine, fine-done, then-done, told-more, many-empty, many-stop, values-more, each-told, each-stop}
 use Rattle.blob.specs.Finds.{Finds, finds-got, finds-room, finds-next}
-use Rattle.format.specs.Table.{kindOf}
 use Rattle.format.specs.Definition.{step}
 use Rattle.format.specs.Provider.{Table, Element, table, unknown, descriptorAt, elementAt, elementsFrom}
 use Rattle.format.specs.Lists.{lastOf, or-else}
 use Rattle.format.specs.declared.Descriptor.{Descriptor}
-use Rattle.element.specs.Tables.{kind-most, is-unknown, is-table}
 
 -- a descriptor that is fine is its words
 module _ (s : List ℕ) (at : ℕ) where
@@ -30,6 +26,9 @@ module _ (s : List ℕ) (at : ℕ) where
   descriptor-told =
       finds-next 4 at (λ o eo. finds-next 4 (at + 4) (λ u eu. finds-room (λ a. finds-room (λ b. finds-next 4 o (λ sig es.
       finds-got (rw (es, eu, eo), rw eo at b))))))
+
+  pub signature-fits : (d : Descriptor) → run (descriptorAt at) s ≡ done d → d .offset + 4 ≤ length s
+  signature-fits d e = let t = descriptor-told .found d e in rw (t .0) (t .1)
 
   module _ (v : verdict (run (descriptorAt at) s) ≡ verdicts.Fine) where
     pub descriptor-fits : le 4 s at + 4 ≤ length s
@@ -101,32 +100,12 @@ abbrev pub lastOr : {B : Type 0} → (Table → B) → B → List Table → B
 lastOr f b [] = b
 lastOr f b (t ∷ ts) = f t
 
-module _ {B : Type 0} (f : Table → B) (b : B) (k : ℕ) where
-  pub last-table : (t : Table) (es : List Element) → lastOr f b (lastOf k (table t ∷ es)) ≡ lastOr f (choose (eqb (t .kind) k) (f t) b) (lastOf k es)
-  unfolding lastOf
-  last-table t es = go (lastOf k es) (eqb (t .kind) k)
-    where
-      go : (l : List Table) (x : Bool) → lastOr f b (or-else l (choose x (t ∷ []) [])) ≡ lastOr f (choose x (f t) b) l
-      go [] true = refl
-      go [] false = refl
-      go (y ∷ ys) x = refl
-
-  module _ (s : List ℕ) (d : Descriptor) (e : Element) (i : run (elementAt d) s ≡ done e) (one : 1 ≤ k) where
-    -- an element of the kind gives its own, another changes nothing
-    pub last-here : kindOf (d .signature) ≡ k → (c : B) → ((t : Table) → e ≡ table t → t .offset ≡ d .offset → f t ≡ c) → (es : List Element)
-        → lastOr f b (lastOf k (e ∷ es)) ≡ lastOr f c (lastOf k es)
-    unfolding elementAt
-    last-here q c g es =
-        let t = is-table s k (d .offset) e one (rw q at (kind-most (d .signature))) (rw q at i) in
-        rw (t .1) (last-table (t .0) es ∙ rw (eq-eqb _ _ (t .3 .kind), g (t .0) (t .1) (t .2)))
-
-    pub last-other : (kindOf (d .signature) ≡ k → ⊥) → (es : List Element) → lastOr f b (lastOf k (e ∷ es)) ≡ lastOr f b (lastOf k es)
-    unfolding elementAt lastOf
-    last-other q es = go (kindOf (d .signature)) refl
-      where
-        go : (n : ℕ) → kindOf (d .signature) ≡ n → lastOr f b (lastOf k (e ∷ es)) ≡ lastOr f b (lastOf k es)
-        go zero p = rw (is-unknown s (d .offset) e (rw p at i) .0)
-        go (suc n) p =
-            let t = is-table s (suc n) (d .offset) e (omega arith) (rw p at (kind-most (d .signature))) (rw p at i) in
-            let x : eqb (t .0 .kind) k ≡ false = ne-eqb _ _ (λ y. q (p ∙ sym (t .3 .kind) ∙ y)) in
-            rw (t .1) (last-table (t .0) es ∙ rw x)
+pub last-table : {B : Type 0} (f : Table → B) (b : B) (k : ℕ) (t : Table) (es : List Element)
+    → lastOr f b (lastOf k (table t ∷ es)) ≡ lastOr f (choose (eqb (t .kind) k) (f t) b) (lastOf k es)
+unfolding lastOf
+last-table f b k t es = go (lastOf k es) (eqb (t .kind) k)
+  where
+    go : (l : List Table) (x : Bool) → lastOr f b (or-else l (choose x (t ∷ []) [])) ≡ lastOr f (choose x (f t) b) l
+    go [] true = refl
+    go [] false = refl
+    go (y ∷ ys) x = refl

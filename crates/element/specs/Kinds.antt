@@ -3,7 +3,7 @@ use Prim.Native.Nat.{ℕ, zero, suc, _+_, _-_, _≤_, _<_}
 use mathlib.Core.Path.{_≡_, refl, ap, sym, _∙_}
 use mathlib.Core.List.{List, [], _∷_, _++_}
 use native.Mathlib.Omega.{arith}
-use lib.ListN.{length, getD, replicate}
+use lib.ListN.{length}
 use Rattle.blob.specs.Laid.{flat}
 use Rattle.blob.specs.declared.Verdict.the-variants as verdicts
 use Rattle.blob.specs.Reading.{run, verdict, values}
@@ -12,7 +12,6 @@ use Rattle.format.specs.Lists.{lastOf, kept}
 use Rattle.format.specs.steps.Needs.{placeOf}
 use Rattle.table.specs.Headers.{header-bytes}
 use Rattle.element.specs.Tables.{Kept, kept-one}
-use Rattle.element.specs.Places.{placed, kind-place}
 
 -- so many kinds from one on
 unfoldable pub kindsFrom : ℕ → ℕ → List ℕ
@@ -50,16 +49,15 @@ module _ (s : List ℕ) (n at k : ℕ) (v : verdict (run (elementsFrom n at) s) 
           let o = kept-one s n at k t ts v e in
           (t, e ∙ ap (λ (l : List Table). t ∷ l) (o .0), sym q, o .1)
 
+  -- its header is there
+  pub kept-header : (place ≡ 4294967295 → ⊥) → place + 12 ≤ length s
+  kept-header h =
+      let t = kept-here h in
+      omega (arith, t .2, t .3 .fits, header-bytes _ (t .3 .known .0) (t .3 .known .1))
+
   pub kept-nowhere : length s ≤ 16777216 → place ≡ 4294967295 → last ≡ []
   kept-nowhere l h = go last refl p
     where
       go : (l : List Table) → last ≡ l → place ≡ placeOf l → last ≡ []
       go [] e q = e
       go (t ∷ ts) e q = absurd (omega (arith, kept-one s n at k t ts v e .1 .fits))
-
--- the same of the places of all kinds: where a kind has one, its table's header is there
-module _ (s : List ℕ) (n at : ℕ) (ps : List ℕ) (e : ps ≡ placed (replicate 9 4294967295) (values (run (elementsFrom n at) s))) {k : ℕ} (one : 1 ≤ k) (most : k ≤ 8) where
-  pub places-header : verdict (run (elementsFrom n at) s) ≡ verdicts.Fine → (getD ps k 0 ≡ 4294967295 → ⊥) → getD ps k 0 + 12 ≤ length s
-  places-header v h =
-      let t = kept-here s n at k v _ (kind-place s n at ps e one most) h in
-      omega (arith, t .2, t .3 .fits, header-bytes _ (t .3 .known .0) (t .3 .known .1))

@@ -1,3 +1,4 @@
+pub mod Signatures
 pub mod Tables
 pub mod Elements
 pub mod Places

@@ -24,12 +24,6 @@ placed ps [] = ps
 placed ps (table t ∷ es) = placed (set ps (t .kind) (t .offset)) es
 placed ps (unknown u ∷ es) = placed (set ps 0 (u .offset)) es
 
-pub length-placed : (ps : List ℕ) (es : List Element) → length (placed ps es) ≡ length ps
-unfolding placed
-length-placed ps [] = refl
-length-placed ps (table t ∷ es) = length-placed (set ps (t .kind) (t .offset)) es ∙ simp length-set
-length-placed ps (unknown u ∷ es) = length-placed (set ps 0 (u .offset)) es ∙ simp length-set
-
 module _ (k : ℕ) where
   stored : (ps : List ℕ) (i o : ℕ) → k < length ps → getD (set ps i o) k 0 ≡ choose (eqb i k) o (getD ps k 0)
   stored ps i o h = go (eqb i k) refl
@@ -51,17 +45,40 @@ module _ (k : ℕ) where
       ∙ ap (λ p. lastOr (λ t. t .offset) p (lastOf k es)) (getD-set-other ps 0 k (u .offset) 0 (λ q. omega arith))
 
 -- where no place was known before
-module _ (s : List ℕ) (n at : ℕ) (ps : List ℕ) (e : ps ≡ placed (replicate 9 4294967295) (values (run (elementsFrom n at) s))) where
-  pub kind-place : {k : ℕ} → 1 ≤ k → k ≤ 8 → getD ps k 0 ≡ placeOf (lastOf k (values (run (elementsFrom n at) s)))
-  kind-place {k} one most =
-      let none = replicate {A = ℕ} 9 4294967295 in
-      ap (λ qs. getD qs k 0) e
-      ∙ placed-last k one none _ (omega (arith, length-replicate {A = ℕ} 9 4294967295))
-      ∙ go (lastOf k _) (getD none k 0) (getD-replicate {A = ℕ} 9 k 4294967295 0 (omega arith))
-    where
-      go : (ts : List Table) (p : ℕ) → p ≡ 4294967295 → lastOr (λ t. t .offset) p ts ≡ placeOf ts
-      go [] p e = e
-      go (t ∷ ts) p e = refl
+abbrev pub nowhere : List ℕ
+nowhere = replicate 9 4294967295
+
+last-place : {k : ℕ} (es : List Element) → 1 ≤ k → k ≤ 8 → getD (placed nowhere es) k 0 ≡ placeOf (lastOf k es)
+last-place {k} es one most =
+    placed-last k one nowhere es (omega (arith, length-replicate {A = ℕ} 9 4294967295))
+    ∙ go (lastOf k es) (getD nowhere k 0) (getD-replicate {A = ℕ} 9 k 4294967295 0 (omega arith))
+  where
+    go : (ts : List Table) (p : ℕ) → p ≡ 4294967295 → lastOr (λ t. t .offset) p ts ≡ placeOf ts
+    go [] p e = e
+    go (t ∷ ts) p e = refl
+
+pub kind-place : (s : List ℕ) (n at : ℕ) (ps : List ℕ) → ps ≡ placed nowhere (values (run (elementsFrom n at) s)) → {k : ℕ} → 1 ≤ k → k ≤ 8
+    → getD ps k 0 ≡ placeOf (lastOf k (values (run (elementsFrom n at) s)))
+kind-place s n at ps e one most = rw e (last-place _ one most)
+
+-- the elements of a known kind: their places are those of all, but for kind 0
+unfoldable pub known : List Element → List Element
+known [] = []
+known (table t ∷ es) = table t ∷ known es
+known (unknown u ∷ es) = known es
+
+last-known : (k : ℕ) (es : List Element) → lastOf k (known es) ≡ lastOf k es
+unfolding known lastOf
+last-known k [] = refl
+last-known k (table t ∷ es) = rw (last-known k es)
+last-known k (unknown u ∷ es) = last-known k es
+
+-- each kind has the place of its last table
+abbrev pub Standing : List ℕ → List Element → Type 0
+Standing ps es = (k : ℕ) → 1 ≤ k → k ≤ 8 → getD ps k 0 ≡ placeOf (lastOf k es)
+
+pub standing : (es : List Element) → Standing (placed nowhere (known es)) es
+standing es k one most = last-place (known es) one most ∙ ap placeOf (last-known k es)
 
 -- the next element takes its kind's place
 pub placed-one : (s : List ℕ) (d : Descriptor) (e : Element) → run (elementAt d) s ≡ done e → (ps : List ℕ) (es : List Element) (k : ℕ) → kindOf (d .signature) ≡ k

@@ -3,12 +3,12 @@ use Prim.Native.Nat.{ℕ, zero, suc, _+_, _-_, _≤_, _<_}
 use mathlib.Core.Path.{_≡_, refl, ap, ap₂, sym, _∙_}
 use mathlib.Core.List.{List, [], _∷_, _++_, map}
 use native.Mathlib.Omega.{arith}
-use lib.ListN.{length, getD, set, length-append}
+use lib.ListN.{length, getD, set}
 use Rattle.blob.specs.Le.{le}
 use Rattle.blob.specs.declared.Verdict.the-variants as verdicts
 use Rattle.blob.specs.Reading.{run, verdict, values}
 use Rattle.format.specs.Table.{kindList}
-use Rattle.format.specs.Provider.{Rows, Table, Element, elementsFrom}
+use Rattle.format.specs.Provider.{Table, Element, elementsFrom}
 use Rattle.format.specs.Lists.{lastOf, listOf, rowCount, after}
 use Rattle.format.specs.Answer.{capped}
 use Rattle.format.specs.steps.Needs.{grown, afterAll, placeOf}
@@ -54,5 +54,5 @@ module _ (s : List ℕ) (n at k : ℕ) (v : verdict (run (elementsFrom n at) s) 
       tables-here = ap (λ (l : List Table). length l) here
 
     module _ (l : length s ≤ 16777216) (h : place ≡ 4294967295) where
-      pub nowhere : keptFrom es left k ≡ keptFrom es (left - 1) (k + 1)
-      nowhere = kept-more es left k more ∙ ap (λ (ts : List Table). ts ++ keptFrom es (left - 1) (k + 1)) (kept-nowhere s n at k v place p l h)
+      pub none-here : keptFrom es left k ≡ keptFrom es (left - 1) (k + 1)
+      none-here = kept-more es left k more ∙ ap (λ (ts : List Table). ts ++ keptFrom es (left - 1) (k + 1)) (kept-nowhere s n at k v place p l h)

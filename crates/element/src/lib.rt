@@ -6,6 +6,7 @@ ghost use Rattle.blob.specs.Reading.{run, done, verdict, values, many};
 ghost use Rattle.format.specs.Definition.{step};
 ghost use Rattle.format.specs.Table.{kindOf, header-length};
 ghost use Rattle.format.specs.Provider.{descriptorAt, unknownAt, eventsAt, tableAt, elementOf, elementsFrom};
+ghost use Rattle.element.specs.Signatures as spec;
 ghost use Rattle.element.specs.Checked.{without-entries};
 ghost use Rattle.element.specs.Places.{placed};
 ghost use Rattle.element.specs.Counted.{none, elementsRead, neededFor};
@@ -18,7 +19,6 @@ use format::EntriesRead;
 use format::Header;
 use format::HeaderRead;
 use format::Needed;
-use format::field::PROVIDER_ELEMENT_OFFSET;
 use format::field::UNKNOWN_ELEMENT_END;
 use format::field::UNKNOWN_ELEMENT_HEADER;
 use format::kind::CHAN;
@@ -37,10 +37,30 @@ use format::signature;
 // Where a provider keeps no table of a kind: no place of a blob.
 pub const NONE: u32 = 4294967295;
 
+// The one known signature that a signature can be: each has its own of eight cells. One comparison then tells those that name no kind.
+fn named(signature: u32) -> u32
+    ensures { λ r. ⌜ r ≡ spec.named signature ⌝ }
+{
+    let cell = (signature as u64) * 29 / 4194304 % 8;
+    match cell {
+        0 => signature::MAPS,
+        1 => signature::TASK,
+        2 => signature::OPCO,
+        3 => signature::EVNT,
+        4 => signature::KEYW,
+        5 => signature::CHAN,
+        6 => signature::TTBL,
+        _ => signature::LEVL,
+    }
+}
+
 // The kind that a signature names; 0 for none.
 pub fn kind_of(signature: u32) -> u32
     ensures { λ r. ⌜ (r ≡ kindOf signature) × (r ≤ 8) ⌝ }
 {
+    if signature != named(signature) {
+        return 0;
+    }
     match signature {
         signature::CHAN => CHAN,
         signature::EVNT => EVNT,
@@ -64,22 +84,19 @@ fn in_word(n: usize) -> usize
     4294967295
 }
 
-// Whether an element of no known kind is fine. It has no map entries.
-fn check_unknown(b: &[u8], at: usize) -> EntriesRead
-    requires { ⌜ length (now b) ≤ 16777216 ⌝ }
-    ensures { λ r. ⌜ r ≡ elementRead (run (unknownAt at) (now (b .entry))) ⌝ }
+// Whether an element of no known kind is fine, whose signature lies in the blob.
+fn check_unknown(b: &[u8], at: usize) -> Verdict
+    requires { ⌜ (at + 4 ≤ length (now b)) × (length (now b) ≤ 16777216) ⌝ }
+    ensures { λ r. ⌜ r ≡ verdict (run (unknownAt at) (now (b .entry))) ⌝ }
 {
-    if b.len() < at {
-        return EntriesRead::Refused(bounds::offset_out(b.len(), PROVIDER_ELEMENT_OFFSET, at));
-    }
     if b.len() - at < 8 {
-        return EntriesRead::Refused(bounds::truncated(b.len(), UNKNOWN_ELEMENT_HEADER, at, 8));
+        return Verdict::Refused(bounds::truncated(b.len(), UNKNOWN_ELEMENT_HEADER, at, 8));
     }
     let end = at + blob::word(b, at + 4) as usize;
     if b.len() < end {
-        return EntriesRead::Refused(bounds::offset_out(b.len(), UNKNOWN_ELEMENT_END, in_word(end)));
+        return Verdict::Refused(bounds::offset_out(b.len(), UNKNOWN_ELEMENT_END, in_word(end)));
     }
-    EntriesRead::Entries(0)
+    Verdict::Fine
 }
 
 // What a verdict is where there are no map entries.
@@ -116,14 +133,11 @@ fn check_table(b: &[u8], kind: u32, at: usize, h: Header) -> EntriesRead
     }
 }
 
-// Whether the element of a kind at a place is fine, and how many map entries it has.
+// Whether the element of a known kind at a place is fine, and how many map entries it has.
 fn check_element(b: &[u8], kind: u32, at: usize) -> EntriesRead
-    requires { ⌜ (kind ≤ 8) × (length (now b) ≤ 16777216) ⌝ }
+    requires { ⌜ (1 ≤ kind) × (kind ≤ 8) × (length (now b) ≤ 16777216) ⌝ }
     ensures { λ r. ⌜ r ≡ elementRead (run (elementOf kind at) (now (b .entry))) ⌝ }
 {
-    if kind == 0 {
-        return check_unknown(b, at);
-    }
     match table::header_at(b, kind, at) {
         HeaderRead::Refused(r) => EntriesRead::Refused(r),
         HeaderRead::Header(h) => check_table(b, kind, at, h),
@@ -179,18 +193,22 @@ fn check_elements(b: &[u8], start: usize, n: u32) -> Elements
     while 0 < left {
         let d = descriptor_of(b, at);
         let kind = kind_of(d.signature);
-        match check_element(b, kind, d.offset as usize) {
-            EntriesRead::Refused(r) => return refused(r),
-            EntriesRead::Entries(e) => {
-                if kind == 0 {
-                    unknown += 1;
-                }
-                if kind == MAPS {
-                    entries = e;
+        if kind == 0 {
+            if let Verdict::Refused(r) = check_unknown(b, d.offset as usize) {
+                return refused(r);
+            }
+            unknown += 1;
+        } else {
+            match check_element(b, kind, d.offset as usize) {
+                EntriesRead::Refused(r) => return refused(r),
+                EntriesRead::Entries(e) => {
+                    if kind == MAPS {
+                        entries = e;
+                    }
                 }
             }
+            places[kind as usize] = d.offset;
         }
-        places[kind as usize] = d.offset;
         at += 8;
         left -= 1;
     }

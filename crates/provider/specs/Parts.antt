@@ -26,7 +26,7 @@ use Rattle.format.specs.declared.Descriptor.{Descriptor}
 use Rattle.format.specs.declared.Wevt.{Wevt}
 use Rattle.format.specs.declared.WevtRead.the-variants as wevt
 use Rattle.format.specs.declared.Needed.{Needed}
-use Rattle.element.specs.Counted.{needsOf, neededFor}
+use Rattle.element.specs.Counted.{needsOf, neededFor, has-refused}
 
 -- what each list needs for a provider with such a header, whose elements need so much
 abbrev pub own : List ℕ → Wevt → List ℕ
@@ -62,10 +62,6 @@ plus-capped (n ∷ ns) (x ∷ xs) [] e = absurd (let z = ap length e in omega (a
 plus-capped (n ∷ ns) (x ∷ xs) (y ∷ ys) e =
     let h : capped (n + x) ≡ capped (n + y) = omega (arith, ap (λ (l : List ℕ). getD l 0 0) e) in
     rw (h, plus-capped ns xs ys (ap (λ (l : List ℕ). drop 1 l) e))
-
-has-refused : {A : Type 0} (o : Outcome A) (r : Refusal) → verdicts.Refused r ≡ verdict o → o ≡ refused r
-has-refused (done a) r h = absurd (let z : _≡_ {A = ℕ} 0 1 = cc in omega arith)
-has-refused (refused q) r h = cc
 
 -- what the test of room tells
 module _ (e : ℕ) (t : Fault) (s : List ℕ) where

@@ -1,19 +1,18 @@
 -- What a reading of a WEVT's header and of a descriptor finds, way by way.
-use Prim.Native.Nat.{ℕ, _+_, _≤_, _<_}
-use mathlib.Core.Path.{_≡_}
+use Prim.Native.Nat.{ℕ, zero, suc, _+_, _-_, _≤_, _<_, max}
+use mathlib.Core.Path.{_≡_, refl, ap, _∙_}
 use mathlib.Core.List.{List}
 use native.Mathlib.Omega.{arith}
 use lib.ListN.{length}
 use borrow.Author.Tests.{eq-eqb, ne-eqb}
 use Rattle.blob.specs.Le.{le}
-use Rattle.blob.specs.declared.Refusal.{Refusal}
-use Rattle.blob.specs.Reading.{Outcome, done, refused, run}
-use Rattle.blob.specs.Laws.{run-number, run-room, run-past, run-holds, run-fails, run-got}
+use Rattle.blob.specs.declared.Verdict.the-variants as verdicts
+use Rattle.blob.specs.Reading.{done, refused, run, many, verdict}
+use Rattle.blob.specs.Laws.{run-number, run-room, run-past, run-holds, run-fails, run-got, many-more, many-none}
 use Rattle.format.specs.Field.{WEVT-provider-offset, WEVT-header, WEVT-element-offset, WEVT-element-signature}
 use Rattle.format.specs.Refuse.{offset-out, truncated, wrong-signature}
-use Rattle.format.specs.Provider.{WEVT, wevtAt, descriptorAt, descriptorRead}
-use Rattle.format.specs.declared.Descriptor.{Descriptor}
-use Rattle.format.specs.declared.DescriptorRead.the-variants as descriptor
+use Rattle.format.specs.Definition.{step}
+use Rattle.format.specs.Provider.{WEVT, wevtAt, descriptorAt}
 
 module _ (at : ℕ) (s : List ℕ) where
   pub wevt-past : length s < at → run (wevtAt at) s ≡ refused (offset-out WEVT-provider-offset at .told (length s))
@@ -54,11 +53,24 @@ module _ (at : ℕ) (s : List ℕ) (offset : ℕ) (o : offset ≡ le 4 s at) whe
       let i : offset ≤ length s = omega arith in
       rw (run-number, run-number, ← o, run-room, run-room, run-number, run-got)
 
--- what the answer for a descriptor tells of its reading
-pub is-descriptor : (o : Outcome Descriptor) (d : Descriptor) → descriptor.Descriptor d ≡ descriptorRead o → o ≡ done d
-is-descriptor (done e) d h = cc
-is-descriptor (refused r) d h = absurd (let z : _≡_ {A = ℕ} 0 1 = cc in omega arith)
+-- the furthest element of n descriptors
+unfoldable pub furthest : List ℕ → ℕ → ℕ → ℕ
+furthest s zero at = 0
+furthest s (suc n) at = max (le 4 s at) (furthest s n (at + 8))
 
-pub is-refused : (o : Outcome Descriptor) (r : Refusal) → descriptor.Refused r ≡ descriptorRead o → o ≡ refused r
-is-refused (done e) r h = absurd (let z : _≡_ {A = ℕ} 0 1 = cc in omega arith)
-is-refused (refused q) r h = cc
+module _ (s : List ℕ) where
+  pub furthest-more : (left at : ℕ) → 0 < left → furthest s left at ≡ max (le 4 s at) (furthest s (left - 1) (at + 8))
+  unfolding furthest
+  furthest-more left at h = let e : left ≡ suc (left - 1) = omega arith in ap (λ n. furthest s n at) e
+
+  pub furthest-none : (left at most : ℕ) → left ≤ 0 → max most (furthest s left at) ≡ most
+  unfolding furthest
+  furthest-none left at most h = let e : left ≡ 0 = omega arith in rw e (omega arith)
+
+  -- where its signature lies in the blob, all do
+  pub furthest-fits : (n at : ℕ) → furthest s n at + 4 ≤ length s → verdict (run (many descriptorAt (step 8) n at) s) ≡ verdicts.Fine
+  unfolding furthest
+  furthest-fits zero at h = many-none descriptorAt (step 8) 0 at s (omega arith)
+  furthest-fits (suc n) at h =
+      let e : suc n - 1 ≡ n = omega arith in
+      many-more descriptorAt (step 8) (suc n) at s _ (omega arith) (descriptor-found at s _ refl (omega arith)) ∙ rw e (furthest-fits n (at + 8) (omega arith))

@@ -8,11 +8,10 @@ ghost use Rattle.format.specs.Definition.{step};
 ghost use Rattle.format.specs.Provider as spec;
 ghost use Rattle.format.specs.Crim.{describedAt};
 ghost use Rattle.format.specs.steps.Needs.{modest, plus, providerRead};
+ghost use Rattle.provider.specs.Wevt as wevt;
 ghost use Rattle.provider.specs.Parts.{own};
 use blob::Refusal;
 use blob::Verdict;
-use format::Descriptor;
-use format::DescriptorRead;
 use format::Needed;
 use format::Wevt;
 use format::WevtRead;
@@ -48,43 +47,42 @@ fn wevt_at(b: &[u8], at: usize) -> WevtRead
     })
 }
 
-// The descriptor at a place, with its element's signature.
-fn descriptor_at(b: &[u8], at: usize) -> DescriptorRead
-    requires { ⌜ at + 8 ≤ length (now b) ⌝ }
-    ensures { λ r. ⌜ r ≡ spec.descriptorRead (run (spec.descriptorAt at) (now (b .entry))) ⌝ }
+// The furthest element of the n descriptors from a place on.
+fn furthest(b: &[u8], start: usize, n: u32) -> u32
+    requires { ⌜ start + 8 * n ≤ length (now b) ⌝ }
+    ensures { λ r. ⌜ r ≡ wevt.furthest (now (b .entry)) n start ⌝ }
 {
-    let offset = blob::word(b, at);
-    let unknown = blob::word(b, at + 4);
-    let place = offset as usize;
-    if b.len() < place {
-        return DescriptorRead::Refused(bounds::offset_out(b.len(), WEVT_ELEMENT_OFFSET, place));
+    let mut at = start;
+    let mut left = n;
+    let mut most = 0;
+    while 0 < left {
+        let place = blob::word(b, at);
+        if most < place {
+            most = place;
+        }
+        at += 8;
+        left -= 1;
     }
-    if b.len() - place < 4 {
-        return DescriptorRead::Refused(bounds::truncated(
-            b.len(),
-            WEVT_ELEMENT_SIGNATURE,
-            place,
-            4,
-        ));
-    }
-    DescriptorRead::Descriptor(Descriptor {
-        offset,
-        unknown,
-        signature: blob::word(b, place),
-    })
+    most
 }
 
-// Whether n descriptors stand one after another from a place on.
+// Whether the elements' signatures of the n descriptors from a place on lie in the blob: where the furthest does, all do.
 fn check_descriptors(b: &[u8], start: usize, n: u32) -> Verdict
     requires { ⌜ start + 8 * n ≤ length (now b) ⌝ }
     ensures { λ r. ⌜ r ≡ verdict (run (many spec.descriptorAt (step 8) n start) (now (b .entry))) ⌝ }
 {
+    if furthest(b, start, n) as usize + 4 <= b.len() {
+        return Verdict::Fine;
+    }
     let mut at = start;
     let mut left = n;
     while 0 < left {
-        let found = descriptor_at(b, at);
-        if let DescriptorRead::Refused(r) = found {
-            return Verdict::Refused(r);
+        let place = blob::word(b, at) as usize;
+        if b.len() < place {
+            return Verdict::Refused(bounds::offset_out(b.len(), WEVT_ELEMENT_OFFSET, place));
+        }
+        if b.len() - place < 4 {
+            return Verdict::Refused(bounds::truncated(b.len(), WEVT_ELEMENT_SIGNATURE, place, 4));
         }
         at += 8;
         left -= 1;

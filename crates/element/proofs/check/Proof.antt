@@ -1,6 +1,6 @@
 -- The invariant: what is left decides. The kept tables of the kinds that are left, with what was counted before, need what all do.
 use Prim.Native.Nat.{_+_, _-_, _≤_}
-use mathlib.Core.Path.{_≡_, refl, ap, sym, _∙_, subst}
+use mathlib.Core.Path.{_≡_, ap, sym, _∙_, subst}
 use mathlib.Core.Logic.{⊎-elim}
 use native.Mathlib.Omega.{arith}
 use borrow.Author.Needs.{needs}
@@ -15,10 +15,9 @@ use Rattle.format.specs.steps.Needs.{modest}
 use Rattle.blob.specs.Laws.{fine-done}
 use native.Mathlib.Nat.{zero-add}
 use Rattle.counts.specs.Short.{modest-set}
-use Rattle.element.specs.Places.{placed, kind-place}
-use Rattle.element.specs.Kinds.{keptFrom, kept-all, kept-none, places-header}
-use Rattle.element.specs.Sums.{grownAll, count-here, tables-here, nowhere}
-use Rattle.element.specs.Counted as counted
+use Rattle.element.specs.Places.{Standing}
+use Rattle.element.specs.Kinds.{keptFrom, kept-all, kept-none, kept-header}
+use Rattle.element.specs.Sums.{grownAll, count-here, tables-here, none-here}
 use Rattle.element.specs.Counted.{neededFor, is-elements, no-elements, counts-told}
 use Rattle.element.proofs.check.Statement.{statement}
 use Rattle.element.proofs.check.Tie as tie
@@ -30,27 +29,18 @@ Inv-loop b start n e places kind₀ left₀ tables₀ counts₀ kind left tables
     × (tables + left ≤ 8)
     × modest counts
     × (verdict (run (elementsFrom n start) b) ≡ verdicts.Fine)
-    × (places ≡ placed counted.nowhere (values (run (elementsFrom n start) b)))
+    × Standing places (values (run (elementsFrom n start) b))
     × (grownAll counts (keptFrom (values (run (elementsFrom n start) b)) left kind) ≡ grownAll none (kept (values (run (elementsFrom n start) b))))
     × (tables + length (keptFrom (values (run (elementsFrom n start) b)) left kind) ≡ length (kept (values (run (elementsFrom n start) b))))
 
 abbrev μ-loop : tie.MeasureT-loop
 μ-loop b start n e places kind₀ left₀ tables₀ counts₀ kind left tables counts = left
 
-check-elements-requires : tie.Need-check-elements-requires Inv-loop μ-loop
-check-elements-requires c κs = search needs
-
-enum-known-verdict : tie.Need-enum-known-verdict Inv-loop μ-loop
-enum-known-verdict c = search needs
-
 returns : tie.Need-returns Inv-loop μ-loop
 returns c =
     let m = c .before .before .before in
     let a = m .before .before .args in
     sym (ap neededFor (no-elements (run (elementsFrom (a .n) (a .start)) (a .b .now)) (m .check-elements .result) _ (m .check-elements .ensures) (c .before .verdict .given .1)))
-
-enum-told : tie.Need-enum-told Inv-loop μ-loop
-enum-told c = search needs
 
 loop-holds : tie.Need-loop-holds Inv-loop μ-loop
 loop-holds c =
@@ -60,43 +50,6 @@ loop-holds c =
     let e = is-elements o (m .check-elements .result) (m .check-elements .ensures) (c .before .enum-told .given .1) in
     (omega arith, omega arith, omega arith, search needs, e .0, e .1, ap (grownAll none) (sym (kept-all (values o))), ap (λ ts. 0 + length ts) (sym (kept-all (values o))) ∙ zero-add (length (kept (values o))))
 
-cast-place : tie.Need-cast-place Inv-loop μ-loop
-cast-place c = search needs
-
-mul-place : tie.Need-mul-place Inv-loop μ-loop
-mul-place c = search needs
-
-array-read-place : tie.Need-array-read-place Inv-loop μ-loop
-array-read-place c = search needs
-
-add-tables : tie.Need-add-tables Inv-loop μ-loop
-add-tables c = search needs
-
-cast-word : tie.Need-cast-word Inv-loop μ-loop
-cast-word c = search needs
-
-add-word : tie.Need-add-word Inv-loop μ-loop
-add-word c =
-    let inv = c .before .before .loop .inv in
-    omega (arith, places-header _ _ _ _ (inv .5) (inv .0) (omega arith) (inv .4) (c .if1 .taken))
-
-word-requires : tie.Need-word-requires Inv-loop μ-loop
-word-requires c κs =
-    let inv = c .before .before .loop .inv in
-    omega (arith, places-header _ _ _ _ (inv .5) (inv .0) (omega arith) (inv .4) (c .if1 .taken))
-
-grow-requires : tie.Need-grow-requires Inv-loop μ-loop
-grow-requires c κs = let inv = c .before .before .before .loop .inv in (inv .0, omega arith, inv .3)
-
-add-kind : tie.Need-add-kind Inv-loop μ-loop
-add-kind c = search needs
-
-sub-left : tie.Need-sub-left Inv-loop μ-loop
-sub-left c = search needs
-
-loop-less : tie.Need-loop-less Inv-loop μ-loop
-loop-less c = search needs
-
 loop-again : tie.Need-loop-again Inv-loop μ-loop
 loop-again c =
     let m = c .before in
@@ -105,7 +58,7 @@ loop-again c =
     let o = m .before .before .before .before .before .before .before in
     let es = values (run (elementsFrom (o .args .n) (o .args .start)) (o .args .b .now)) in
     let more = m .loop-test .taken in
-    let place = kind-place _ _ _ _ (inv .5) (inv .0) (omega arith) in (
+    let place = inv .5 _ (inv .0) (omega arith) in (
       omega arith,
       omega arith,
       ⊎-elim (λ w. omega arith) (λ w. omega arith) (c .if1 .came),
@@ -115,27 +68,15 @@ loop-again c =
       ⊎-elim
           {C = grownAll (c .if1 .counts) (keptFrom es (l .left - 1) (l .kind + 1)) ≡ grownAll (l .counts) (keptFrom es (l .left) (l .kind))}
           (λ w. sym (count-here _ _ _ _ (inv .4) _ place _ _ more (w .0 .taken) (inv .0) (omega arith) _ (w .1 .ensures) _ (w .4 ∙ w .2 .ensures)))
-          (λ w. ap (λ ms. grownAll ms (keptFrom es (l .left - 1) (l .kind + 1))) (w .2) ∙ ap (grownAll (l .counts)) (sym (nowhere _ _ _ _ (inv .4) _ place (l .counts) _ more (o .pre .0 .1) (w .0 .left))))
+          (λ w. ap (λ ms. grownAll ms (keptFrom es (l .left - 1) (l .kind + 1))) (w .2) ∙ ap (grownAll (l .counts)) (sym (none-here _ _ _ _ (inv .4) _ place (l .counts) _ more (o .pre .0 .1) (w .0 .left))))
           (c .if1 .came)
           ∙ inv .6,
       ⊎-elim
           {C = c .if1 .tables + length (keptFrom es (l .left - 1) (l .kind + 1)) ≡ length (kept es)}
           (λ w. omega (arith, w .3, inv .7, tables-here _ _ _ _ (inv .4) _ place (l .counts) _ more (w .0 .taken)))
-          (λ w. omega (arith, w .1, inv .7, ap (λ ts. length ts) (nowhere _ _ _ _ (inv .4) _ place (l .counts) _ more (o .pre .0 .1) (w .0 .left))))
+          (λ w. omega (arith, w .1, inv .7, ap (λ ts. length ts) (none-here _ _ _ _ (inv .4) _ place (l .counts) _ more (o .pre .0 .1) (w .0 .left))))
           (c .if1 .came),
     )
-
-array-write-counts : tie.Need-array-write-counts Inv-loop μ-loop
-array-write-counts c = search needs
-
-array-write-counts-2 : tie.Need-array-write-counts-2 Inv-loop μ-loop
-array-write-counts-2 c = search needs
-
-sum-requires : tie.Need-sum-requires Inv-loop μ-loop
-sum-requires c κs = search needs
-
-array-write-counts-3 : tie.Need-array-write-counts-3 Inv-loop μ-loop
-array-write-counts-3 c = search needs
 
 returns-2 : tie.Need-returns-2 Inv-loop μ-loop
 unfolding grownAll
@@ -158,25 +99,29 @@ check-spec =
     (tie.spec
     Inv-loop
     μ-loop
-    check-elements-requires
-    enum-known-verdict
+    (λ c κs. search needs)
+    (λ c. search needs)
     returns
-    enum-told
+    (λ c. search needs)
     loop-holds
-    cast-place
-    mul-place
-    array-read-place
-    add-tables
-    cast-word
-    add-word
-    word-requires
-    grow-requires
-    add-kind
-    sub-left
-    loop-less
+    (λ c. search needs)
+    (λ c. search needs)
+    (λ c. search needs)
+    (λ c. search needs)
+    (λ c. search needs)
+    (λ c.
+    let inv = c .before .before .loop .inv in
+    omega (arith, kept-header _ _ _ _ (inv .4) _ (inv .5 _ (inv .0) (omega arith)) (c .if1 .taken)))
+    (λ c κs.
+    let inv = c .before .before .loop .inv in
+    omega (arith, kept-header _ _ _ _ (inv .4) _ (inv .5 _ (inv .0) (omega arith)) (c .if1 .taken)))
+    (λ c κs. let inv = c .before .before .before .loop .inv in (inv .0, omega arith, inv .3))
+    (λ c. search needs)
+    (λ c. search needs)
+    (λ c. search needs)
     loop-again
-    array-write-counts
-    array-write-counts-2
-    sum-requires
-    array-write-counts-3
+    (λ c. search needs)
+    (λ c. search needs)
+    (λ c κs. search needs)
+    (λ c. search needs)
     returns-2)

@@ -12,8 +12,8 @@ use Rattle.blob.specs.Reading.{run, many, verdict}
 use Rattle.blob.specs.Laws.{many-more}
 use Rattle.format.specs.Definition.{step}
 use Rattle.format.specs.Provider.{descriptorAt, elementsFrom}
-use Rattle.element.specs.Elements.{next-described}
-use Rattle.element.specs.Counted.{elementsRead, readFrom, read-all, read-none, read-stop, read-more}
+use Rattle.element.specs.Elements.{signature-fits, next-described}
+use Rattle.element.specs.Counted.{elementsRead, readFrom, read-all, read-none, has-refused, is-refused, as-unknown, read-stop, read-unknown, read-table}
 use Rattle.element.proofs.check_elements.Statement.{statement}
 use Rattle.element.proofs.check_elements.Tie as tie
 
@@ -27,84 +27,49 @@ Inv-loop b start n at₀ left₀ unknown₀ entries₀ places₀ at left unknown
 abbrev μ-loop : tie.MeasureT-loop
 μ-loop b start n at₀ left₀ unknown₀ entries₀ places₀ at left unknown entries places = left
 
-loop-holds : tie.Need-loop-holds Inv-loop μ-loop
-loop-holds c = (search needs, search needs, search needs, read-all (run (elementsFrom _ _) _))
-
-descriptor-of-requires : tie.Need-descriptor-of-requires Inv-loop μ-loop
-descriptor-of-requires c κs = (omega arith, next-described _ _ _ (c .loop-test .taken) (c .before .loop .inv .2))
-
-kind-of-requires : tie.Need-kind-of-requires Inv-loop μ-loop
-kind-of-requires c κs = search needs
-
-cast-check-element : tie.Need-cast-check-element Inv-loop μ-loop
-cast-check-element c = search needs
-
-check-element-requires : tie.Need-check-element-requires Inv-loop μ-loop
-check-element-requires c κs = search needs
-
-enum-known-r : tie.Need-enum-known-r Inv-loop μ-loop
-enum-known-r c = search needs
-
-refused-requires : tie.Need-refused-requires Inv-loop μ-loop
-refused-requires c κs = search needs
-
 returns : tie.Need-returns Inv-loop μ-loop
 returns c =
     let x = c .before in
     let e = x .before .before .before in
-    let k = e .before .before in
+    let k = e .before .before .before in
     let d = k .before in
     let m = d .before in
     let inv = m .before .loop .inv in
     c .refused .ensures ∙ sym (inv .3
-    ∙ read-stop _ _ _ (m .loop-test .taken) _ (d .descriptor-of .ensures) _ (k .kind-of .ensures .0) _ _ _ _ (sym (x .before .r .given .1) ∙ e .check-element .ensures) (inv .2))
+    ∙ read-stop _ _ _ (m .loop-test .taken) _ (d .descriptor-of .ensures) _ (k .kind-of .ensures .0) _ _ _ _
+    (as-unknown _ _ _ (e .before .before .if1 .taken) ∙ has-refused _ _ (sym (x .before .r .given .1) ∙ e .check-unknown .ensures)) (inv .2))
 
-enum-known-e : tie.Need-enum-known-e Inv-loop μ-loop
-enum-known-e c = search needs
-
-add-unknown : tie.Need-add-unknown Inv-loop μ-loop
-add-unknown c = search needs
-
-cast-places : tie.Need-cast-places Inv-loop μ-loop
-cast-places c = search needs
-
-mul-places : tie.Need-mul-places Inv-loop μ-loop
-mul-places c = search needs
-
-array-write-places : tie.Need-array-write-places Inv-loop μ-loop
-array-write-places c = search needs
-
-add-at : tie.Need-add-at Inv-loop μ-loop
-add-at c = search needs
-
-sub-left : tie.Need-sub-left Inv-loop μ-loop
-sub-left c = search needs
-
-loop-less : tie.Need-loop-less Inv-loop μ-loop
-loop-less c = search needs
+returns-2 : tie.Need-returns-2 Inv-loop μ-loop
+returns-2 c =
+    let x = c .before in
+    let e = x .before .before .before in
+    let k = e .before .before .before in
+    let d = k .before in
+    let m = d .before in
+    let inv = m .before .loop .inv in
+    c .refused2 .ensures ∙ sym (inv .3
+    ∙ read-stop _ _ _ (m .loop-test .taken) _ (d .descriptor-of .ensures) _ (k .kind-of .ensures .0) _ _ _ _
+    (is-refused _ _ (sym (x .before .r2 .given .1) ∙ e .check-element .ensures)) (inv .2))
 
 loop-again : tie.Need-loop-again Inv-loop μ-loop
 loop-again c =
-    let i = c .before in
-    let a = i .before .before in
-    let e = a .before .before in
-    let k = e .before .before in
+    let k = c .before in
     let d = k .before in
     let m = d .before in
     let inv = m .before .loop .inv in
     let more = m .loop-test .taken in
-    let found = d .descriptor-of .ensures in (
+    let found = d .descriptor-of .ensures in
+    let q = k .kind-of .ensures .0 in (
       omega arith,
-      ⊎-elim (λ w. omega arith) (λ w. omega arith) (i .if1 .came),
+      ⊎-elim (λ w. omega arith) (λ w. omega arith) (c .if1 .came),
       sym (many-more descriptorAt (step 8) _ _ _ _ more found) ∙ inv .2,
       inv .3
-          ∙ read-more _ _ _ more _ found _ (k .kind-of .ensures .0) _ _ _ _ _ _ (sym (a .e .given .1) ∙ e .check-element .ensures)
-          (⊎-elim (λ w. w .1 ∙ rw (eq-eqb _ _ (w .0 .taken))) (λ w. w .1 ∙ rw (ne-eqb _ _ (w .0 .left)) (omega arith)) (i .if1 .came))
-          (⊎-elim (λ w. w .1 ∙ rw (eq-eqb _ _ (w .0 .taken))) (λ w. w .1 ∙ rw (ne-eqb _ _ (w .0 .left))) (c .if2 .came)),
+          ∙ ⊎-elim
+          (λ w. rw (w .5, w .6, w .7) (read-unknown _ _ _ more _ found _ q _ _ _ (w .0 .taken) (sym (w .2 .ensures) ∙ w .4 .given .1)))
+          (λ w. rw (w .7, w .8, w .9) (read-table _ _ _ more _ found _ q _ _ _ (omega arith) _ _ (sym (w .4 .given .1) ∙ w .2 .ensures)
+          (⊎-elim (λ x. x .1 ∙ rw (eq-eqb _ _ (x .0 .taken))) (λ x. x .1 ∙ rw (ne-eqb _ _ (x .0 .left))) (w .6 .came))))
+          (c .if1 .came),
     )
-
-returns-2 : tie.Need-returns-2 Inv-loop μ-loop
-returns-2 c = sym (c .before .loop .inv .3 ∙ read-none _ _ _ _ _ _ (c .loop-test .left))
 
 pub check-elements-spec : {M : Type 1} → statement M
 check-elements-spec =
@@ -112,21 +77,27 @@ check-elements-spec =
     (tie.spec
     Inv-loop
     μ-loop
-    loop-holds
-    descriptor-of-requires
-    kind-of-requires
-    cast-check-element
-    check-element-requires
-    enum-known-r
-    refused-requires
+    (λ c. (search needs, search needs, search needs, read-all (run (elementsFrom _ _) _)))
+    (λ c κs. (omega arith, next-described _ _ _ (c .loop-test .taken) (c .before .loop .inv .2)))
+    (λ c κs. search needs)
+    (λ c. search needs)
+    (λ c κs. let f = signature-fits _ _ _ (c .before .before .before .descriptor-of .ensures) in (omega arith, omega arith))
+    (λ c. search needs)
+    (λ c κs. search needs)
     returns
-    enum-known-e
-    add-unknown
-    cast-places
-    mul-places
-    array-write-places
-    add-at
-    sub-left
-    loop-less
+    (λ c. search needs)
+    (λ c. search needs)
+    (λ c. search needs)
+    (λ c κs. search needs)
+    (λ c. search needs)
+    (λ c κs. search needs)
+    returns-2
+    (λ c. search needs)
+    (λ c. search needs)
+    (λ c. search needs)
+    (λ c. search needs)
+    (λ c. search needs)
+    (λ c. search needs)
+    (λ c. search needs)
     loop-again
-    returns-2)
+    (λ c. sym (c .before .loop .inv .3 ∙ read-none _ _ _ _ _ _ (c .loop-test .left))))
