@@ -49,9 +49,9 @@ module _ (s : List ℕ) where
   unfolding turns
   turns-again at left same size e d = rw (sym e) (rw (eq-eqb size size refl, ne-eqb _ _ d) (omega arith))
 
-  pub turns-next : (at next left same : ℕ) → 0 < left → turns next (left - 1) same < turns at left same
+  pub turns-next : (at next left same size : ℕ) → 0 < left → turns next (left - 1) size < turns at left same
   unfolding turns
-  turns-next at next left same h = omega (arith, one-most (eqb (le 4 s (next + 4)) same))
+  turns-next at next left same size h = omega (arith, one-most (eqb (le 4 s (next + 4)) size))
 
 -- the TEMPs of a TTBL are those until the end that the code was told
 module _ (at : ℕ) (h : Header) (s : List ℕ) where

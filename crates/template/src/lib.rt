@@ -63,7 +63,7 @@ fn items_at(b: &[u8], size: u32, items: Items) -> Verdict
     }
 }
 
-// Whether the fields of a TEMP whose size is right are.
+// Whether the counts and the items of a TEMP are right, whose size is.
 fn check_fields(b: &[u8], at: usize, size: u32) -> Verdict
     requires { ⌜ (at + 40 ≤ length (now b)) × (length (now b) ≤ 16777216) ⌝ }
     ensures { λ r. ⌜ r ≡ verdict (run (templateFields at size) (now (b .entry))) ⌝ }
@@ -81,7 +81,7 @@ fn check_fields(b: &[u8], at: usize, size: u32) -> Verdict
     )
 }
 
-// Whether the TEMP of some size is right whose header stands at a place of a region.
+// Whether a TEMP of some size is right whose header stands in a region.
 fn check_temp(b: &[u8], end: usize, at: usize, size: u32) -> Verdict
     requires { ⌜ (at + 40 ≤ end) × (end ≤ length (now b)) × (length (now b) ≤ 16777216) ⌝ }
     requires { ⌜ size ≡ le 4 (now b) (at + 4) ⌝ }
@@ -100,8 +100,9 @@ fn check_temp(b: &[u8], end: usize, at: usize, size: u32) -> Verdict
     check_fields(b, at, size)
 }
 
-// Whether n TEMPs stand one after another from a place of a region on. A size is foreseen to be that of the TEMP before: the next
-// place comes from that one, so the processor does not wait for the word that was read. Where it is another, the place is looked at again.
+// Whether n TEMPs stand one after another from a place of a region on. The step is the size of the TEMP before, where this one's is the
+// same, so that the processor need not wait for the word that it reads; where not, it is the new one and the TEMP is looked at again.
+// (With a `continue` for the `else`, the compiler steps by the word again.)
 fn check_until(b: &[u8], end: usize, start: usize, n: u32) -> Verdict
     requires { ⌜ (start ≤ end) × (end ≤ length (now b)) × (length (now b) ≤ 16777216) ⌝ }
     ensures { λ r. ⌜ r ≡ verdict (run (many (templateAt (until end)) next n start) (now (b .entry))) ⌝ }
@@ -114,16 +115,16 @@ fn check_until(b: &[u8], end: usize, start: usize, n: u32) -> Verdict
             return Verdict::Refused(bounds::truncated(end, TEMP_HEADER, at, 40));
         }
         let size = blob::word(b, at + 4);
-        if size != same {
+        if size == same {
+            let found = check_temp(b, end, at, same);
+            if let Verdict::Refused(r) = found {
+                return Verdict::Refused(r);
+            }
+            at += same as usize;
+            left -= 1;
+        } else {
             same = size;
-            continue;
         }
-        let found = check_temp(b, end, at, same);
-        if let Verdict::Refused(r) = found {
-            return Verdict::Refused(r);
-        }
-        at += same as usize;
-        left -= 1;
     }
     Verdict::Fine
 }
@@ -198,7 +199,7 @@ fn template_of(b: &[u8], at: usize, size: u32) -> Template
     }
 }
 
-// Stores the words of n TEMPs that `check_until` found fine, with its turns.
+// Stores the words of n TEMPs that `check_until` found fine. It steps as that does.
 fn fill_until(b: &[u8], end: usize, start: usize, n: u32, area: &mut [u32])
     requires { ⌜ (start ≤ end) × (end ≤ length (now b)) × (length (now b) ≤ 16777216) ⌝ }
     requires { ⌜ width TEMPLATES * n ≤ length (now area) ⌝ }
@@ -211,14 +212,14 @@ fn fill_until(b: &[u8], end: usize, start: usize, n: u32, area: &mut [u32])
     let mut to = 0;
     while 0 < left {
         let size = blob::word(b, at + 4);
-        if size != same {
+        if size == same {
+            put(area, to, template_of(b, at, same));
+            at += same as usize;
+            left -= 1;
+            to += width::TEMPLATES;
+        } else {
             same = size;
-            continue;
         }
-        put(area, to, template_of(b, at, same));
-        at += same as usize;
-        left -= 1;
-        to += width::TEMPLATES;
     }
 }
 

@@ -30,25 +30,25 @@ returns c =
     ap verdicts.Refused (c .truncated .ensures)
     ∙ sym (m .before .loop .inv .1 ∙ many-stop _ next _ _ _ _ (m .loop-test .taken) (run-fails _ _ _ _ (lt-leb _ _ cut)))
 
-loop-less : tie.Need-loop-less Inv-loop μ-loop
-loop-less c = turns-again _ _ _ _ _ (c .before .word .ensures) (c .if2 .taken)
-
 returns-2 : tie.Need-returns-2 Inv-loop μ-loop
 returns-2 c =
     let k = c .before .before .before in
     let m = k .before .before .before .before in
     sym (m .before .loop .inv .1 ∙ many-stop _ next _ _ _ _ (m .loop-test .taken) (is-refused _ _ (sym (c .before .found .given .1) ∙ k .check-temp .ensures)))
 
-loop-less-2 : tie.Need-loop-less-2 Inv-loop μ-loop
-loop-less-2 c = turns-next _ _ _ _ _ (c .before .before .before .before .before .before .loop-test .taken)
+loop-less : tie.Need-loop-less Inv-loop μ-loop
+loop-less c = turns-next _ _ _ _ _ _ (c .before .before .before .before .before .before .loop-test .taken)
 
-loop-again-2 : tie.Need-loop-again-2 Inv-loop μ-loop
-loop-again-2 c =
+loop-again : tie.Need-loop-again Inv-loop μ-loop
+loop-again c =
     let k = c .before .before in
     let e = k .before in
     let m = e .before .before .before in
-    let f = fine-template _ _ _ _ (sym (e .if2 .left) ∙ e .before .word .ensures) (sym (k .check-temp .ensures) ∙ c .enum-told .given .1) in
+    let f = fine-template _ _ _ _ (sym (e .if2 .taken) ∙ e .before .word .ensures) (sym (k .check-temp .ensures) ∙ c .enum-told .given .1) in
     (f .0 .ends, m .before .loop .inv .1 ∙ many-more _ next _ _ _ _ (m .loop-test .taken) (f .1))
+
+loop-less-2 : tie.Need-loop-less-2 Inv-loop μ-loop
+loop-less-2 c = turns-again _ _ _ _ _ (c .before .word .ensures) (c .if2 .left)
 
 returns-3 : tie.Need-returns-3 Inv-loop μ-loop
 returns-3 c = sym (c .before .loop .inv .1 ∙ many-none _ next _ _ _ (c .loop-test .left))
@@ -57,5 +57,5 @@ pub check-until-spec : {M : Type 1} → statement M
 check-until-spec =
     tie.close (
     tie.spec Inv-loop μ-loop (λ c. (search needs, refl)) (λ c. search needs) (λ c κs. search needs) returns (λ c. search needs) (λ c κs. search needs)
-    loop-less (λ c. search needs) (λ c κs. search needs) (λ c. search needs) returns-2 (λ c. search needs) (λ c. search needs) (λ c. search needs) (λ c. search needs)
-    loop-less-2 loop-again-2 returns-3)
+    (λ c κs. search needs) (λ c. search needs) returns-2 (λ c. search needs) (λ c. search needs) (λ c. search needs) (λ c. search needs)
+    loop-less loop-again loop-less-2 (λ c. search needs) returns-3)

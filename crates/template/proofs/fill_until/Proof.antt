@@ -29,26 +29,23 @@ abbrev μ-loop : tie.MeasureT-loop
 word-requires : tie.Need-word-requires Inv-loop μ-loop
 word-requires c κs = let f = first-fine _ _ _ _ _ refl (c .loop-test .taken) (c .before .loop .inv .3) in omega arith
 
-loop-less : tie.Need-loop-less Inv-loop μ-loop
-loop-less c = turns-again _ _ _ _ _ (c .before .word .ensures) (c .if1 .taken)
-
 template-of-requires : tie.Need-template-of-requires Inv-loop μ-loop
 template-of-requires c κs =
     let w = c .before .before in
     let m = w .before in
-    let f = first-fine _ _ _ _ _ (sym (c .before .if1 .left) ∙ w .word .ensures) (m .loop-test .taken) (m .before .loop .inv .3) in
+    let f = first-fine _ _ _ _ _ (sym (c .before .if1 .taken) ∙ w .word .ensures) (m .loop-test .taken) (m .before .loop .inv .3) in
     omega arith
 
-loop-less-2 : tie.Need-loop-less-2 Inv-loop μ-loop
-loop-less-2 c = turns-next _ _ _ _ _ (c .before .before .before .before .before .before .before .loop-test .taken)
+loop-less : tie.Need-loop-less Inv-loop μ-loop
+loop-less c = turns-next _ _ _ _ _ _ (c .before .before .before .before .before .before .before .loop-test .taken)
 
-loop-again-2 : tie.Need-loop-again-2 Inv-loop μ-loop
-loop-again-2 c =
+loop-again : tie.Need-loop-again Inv-loop μ-loop
+loop-again c =
     let p = c .before .before in
     let e = p .before .before .before in
     let m = e .before .before in
     let inv = m .before .loop .inv in
-    let f = first-fine _ _ _ _ _ (sym (e .if1 .left) ∙ e .before .word .ensures) (m .loop-test .taken) (inv .3) in (
+    let f = first-fine _ _ _ _ _ (sym (e .if1 .taken) ∙ e .before .word .ensures) (m .loop-test .taken) (inv .3) in (
       f .0 .ends,
       omega (arith, p .put .kept .0),
       p .put .kept .0 ∙ inv .2,
@@ -56,12 +53,15 @@ loop-again-2 c =
       inv .4 ∙ rest-more _ next templateWords _ _ _ _ _ _ _ (rw (p .before .template-of .ensures) at (p .put .ensures)) (m .loop-test .taken) (f .1) (inv .3),
     )
 
+loop-less-2 : tie.Need-loop-less-2 Inv-loop μ-loop
+loop-less-2 c = turns-again _ _ _ _ _ (c .before .word .ensures) (c .if1 .left)
+
 returns : tie.Need-returns Inv-loop μ-loop
 returns c = sym (c .before .loop .inv .4 ∙ rest-none _ next templateWords _ _ _ _ _ (c .loop-test .left))
 
 pub fill-until-spec : {M : Type 1} → statement M
 fill-until-spec =
     tie.close (
-    tie.spec Inv-loop μ-loop (λ c. (search needs, search needs, refl, search needs, refl)) (λ c. search needs) word-requires loop-less (λ c. search needs)
-    template-of-requires (λ c κs. search needs) (λ c. search needs) (λ c. search needs) (λ c. search needs) (λ c. search needs) loop-less-2 loop-again-2
+    tie.spec Inv-loop μ-loop (λ c. (search needs, search needs, refl, search needs, refl)) (λ c. search needs) word-requires template-of-requires
+    (λ c κs. search needs) (λ c. search needs) (λ c. search needs) (λ c. search needs) (λ c. search needs) loop-less loop-again loop-less-2 (λ c. search needs)
     (λ c. search needs) returns)
