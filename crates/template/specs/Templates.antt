@@ -1,35 +1,57 @@
--- TEMPs one after another: where the next one starts, and what the region's end makes of all.
+-- TEMPs one after another: the first of those that are fine, how many turns they take, and what the region's end makes of all.
 use Prim.{Unit, tt}
-use Prim.{Unit, tt}
-use Prim.Native.Nat.{ℕ, _+_, _≤_}
-use mathlib.Core.Path.{_≡_}
+use Prim.Native.Nat.{ℕ, _+_, _-_, _*_, _<_}
+use mathlib.Core.Path.{_≡_, refl, sym, _∙_}
 use mathlib.Core.List.{List}
+use mathlib.Core.Bool.{Bool, true, false}
+use native.Mathlib.Omega.{arith}
 use lib.ListN.{length}
-use borrow.Author.Tests.{leb-true}
+use lib.Dec.{eqb}
+use borrow.Author.Tests.{eq-eqb, ne-eqb}
 use Rattle.blob.specs.declared.Refusal.{Refusal}
-use Rattle.blob.specs.Reading.{done, refused, many, run}
-use Rattle.blob.specs.Laws.{many-same}
-use Rattle.blob.specs.Finds.{Finds, finds-got, finds-demand, finds-bind, finds-next}
+use Rattle.blob.specs.declared.Verdict.the-variants as verdicts
+use Rattle.blob.specs.Le.{le}
+use Rattle.blob.specs.Reading.{Outcome, done, refused, choose, many, run, verdict}
+use Rattle.blob.specs.Laws.{not-fine, many-stop, many-same}
 use Rattle.format.specs.Field.{table-size}
-use Rattle.format.specs.Region.{until, end, inside, regionAt, endRead}
+use Rattle.format.specs.Region.{until, end, regionAt, endRead}
 use Rattle.format.specs.Table.{TTBL}
 use Rattle.format.specs.Template.{templateAt, next, templatesAt}
 use Rattle.format.specs.theorems.Until.{template-until, region-told, region-refused}
 use Rattle.format.specs.declared.EndRead.the-variants as ends
 use Rattle.format.specs.declared.Header.{Header}
 use Rattle.format.specs.declared.Template.{Template}
+use Rattle.template.specs.Temp.{templateOf, Stands, fine-template}
 
--- a TEMP that was read ends in its region, so the next one starts there
-template-ends : (e at : ℕ) (s : List ℕ) → Finds (templateAt (until e) at) s (λ t. at + t .size ≤ e)
-unfolding templateAt inside
-template-ends e at s =
-    finds-demand _ _ (λ h. finds-next 4 at (λ _ _. finds-demand _ _ (λ d. finds-next 4 (at + 4) (λ size _. finds-demand _ _ (λ l. finds-demand _ _ (λ w.
-    finds-next 4 (at + 8) (λ _ _. finds-next 4 (at + 12) (λ _ _. finds-next 4 (at + 16) (λ _ _. finds-next 4 (at + 20) (λ _ _.
-    finds-bind (λ _. Unit {0}) (record { found = λ _ _. tt }) (λ _ _. finds-demand _ _ (λ c.
-    finds-bind (λ _. Unit {0}) (record { found = λ _ _. tt }) (λ _ _. finds-got (leb-true (at + size) e w))))))))))))))
+pub is-refused : (o : Outcome Template) (r : Refusal) → verdicts.Refused r ≡ verdict o → o ≡ refused r
+is-refused (done t) r h = absurd (not-fine r h)
+is-refused (refused q) r h = cc
 
-pub template-next : (e at : ℕ) (s : List ℕ) (t : Template) → run (templateAt (until e) at) s ≡ done t → at + t .size ≤ e
-template-next e at s t h = template-ends e at s .found t h
+-- the first of some that are fine is one
+pub first-fine : (e left at : ℕ) (s : List ℕ) (size : ℕ) → size ≡ le 4 s (at + 4) → 0 < left → verdict (run (many (templateAt (until e)) next left at) s) ≡ verdicts.Fine
+    → Stands e at size × (run (templateAt (until e) at) s ≡ done (templateOf s at size))
+first-fine e left at s size es h v = fine-template e at s size es (go (run (templateAt (until e) at) s) refl)
+  where
+    go : (o : Outcome Template) → run (templateAt (until e) at) s ≡ o → verdict o ≡ verdicts.Fine
+    go (done t) g = refl
+    go (refused r) g = absurd (not-fine r (sym (many-stop _ next left at s r h g) ∙ v))
+
+one-most : (t : Bool) → choose t 0 1 < 2
+one-most true = omega arith
+one-most false = omega arith
+
+-- at most two turns for each TEMP that is left: one more where the size is not the one before
+module _ (s : List ℕ) where
+  unfoldable pub turns : (at left same : ℕ) → ℕ
+  turns at left same = 2 * left + choose (eqb (le 4 s (at + 4)) same) 0 1
+
+  pub turns-again : (at left same size : ℕ) → size ≡ le 4 s (at + 4) → (size ≡ same → ⊥) → turns at left size < turns at left same
+  unfolding turns
+  turns-again at left same size e d = rw (sym e) (rw (eq-eqb size size refl, ne-eqb _ _ d) (omega arith))
+
+  pub turns-next : (at next left same size : ℕ) → 0 < left → turns next (left - 1) size < turns at left same
+  unfolding turns
+  turns-next at next left same size h = omega (arith, one-most (eqb (le 4 s (next + 4)) size))
 
 -- the TEMPs of a TTBL are those until the end that the code was told
 module _ (at : ℕ) (h : Header) (s : List ℕ) where

@@ -8,18 +8,6 @@ use Rattle.template.specs.Templates.{templates-told, templates-refused}
 use Rattle.template.proofs.check.Statement.{statement}
 use Rattle.template.proofs.check.Tie as tie
 
-region-end-requires : tie.Need-region-end-requires
-region-end-requires c κs = search needs
-
-enum-known-region : tie.Need-enum-known-region
-enum-known-region c = search needs
-
-enum-known-region-2 : tie.Need-enum-known-region-2
-enum-known-region-2 c = search needs
-
-add-check-until : tie.Need-add-check-until
-add-check-until c = search needs
-
 check-until-requires : tie.Need-check-until-requires
 check-until-requires c κs =
     let r = c .before .before .before in
@@ -38,12 +26,5 @@ returns-2 c =
 
 pub check-spec : {M : Type 1} → statement M
 check-spec =
-    tie.close
-    (tie.spec
-    region-end-requires
-    enum-known-region
-    enum-known-region-2
-    add-check-until
-    check-until-requires
-    returns
-    returns-2)
+    tie.close (
+    tie.spec (λ c κs. search needs) (λ c. search needs) (λ c. search needs) (λ c. search needs) check-until-requires returns returns-2)

@@ -9,23 +9,11 @@ use Rattle.template.specs.Templates.{templates-told, templates-refused}
 use Rattle.template.proofs.fill.Statement.{statement}
 use Rattle.template.proofs.fill.Tie as tie
 
-region-end-requires : tie.Need-region-end-requires
-region-end-requires c κs = search needs
-
-enum-known-end : tie.Need-enum-known-end
-enum-known-end c = search needs
-
-enum-told : tie.Need-enum-told
-enum-told c = search needs
-
 returns : tie.Need-returns
 returns c =
     let r = c .before .before in
     let stop = ap verdict (templates-refused _ _ _ _ (sym (c .enum-told .given .1) ∙ r .region-end .ensures)) in
     absurd (not-fine _ (sym stop ∙ r .before .before .before .pre .1 .1))
-
-add-fill-until : tie.Need-add-fill-until
-add-fill-until c = search needs
 
 fill-until-requires : tie.Need-fill-until-requires
 fill-until-requires c κs =
@@ -35,9 +23,6 @@ fill-until-requires c κs =
     let told = sym (e .end .given .1) ∙ r .region-end .ensures in
     let b = region-bounds _ _ _ 12 _ (pre .0 .0) _ told in
     (omega arith, (pre .1 .0, sym (ap verdict (templates-told _ _ _ _ told)) ∙ pre .1 .1))
-
-same-length : tie.Need-same-length
-same-length c = search needs
 
 returns-2 : tie.Need-returns-2
 returns-2 c =
@@ -49,13 +34,5 @@ returns-2 c =
 
 pub fill-spec : {M : Type 1} → statement M
 fill-spec =
-    tie.close
-    (tie.spec
-    region-end-requires
-    enum-known-end
-    enum-told
-    returns
-    add-fill-until
-    fill-until-requires
-    same-length
-    returns-2)
+    tie.close (
+    tie.spec (λ c κs. search needs) (λ c. search needs) (λ c. search needs) returns (λ c. search needs) fill-until-requires (λ c. search needs) returns-2)

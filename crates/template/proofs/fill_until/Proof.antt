@@ -6,100 +6,62 @@ use lib.ListN.{length}
 use borrow.Author.Needs.{needs}
 use Rattle.blob.specs.declared.Verdict.the-variants as verdicts
 use Rattle.blob.specs.Reading.{run, many, verdict}
-use Rattle.blob.specs.Laws.{many-more, many-stop, not-fine, rest, rest-more, rest-none}
+use Rattle.blob.specs.Laws.{many-more, rest, rest-more, rest-none}
+use Rattle.format.specs.Area.{TEMPLATES, width}
 use Rattle.format.specs.Region.{until}
 use Rattle.format.specs.Template.{templateAt, next}
 use Rattle.format.specs.Lists.{templateWords}
-use Rattle.template.specs.Temp.{is-done, is-refused}
-use Rattle.template.specs.Templates.{template-next}
+use Rattle.template.specs.Templates.{first-fine, turns, turns-again, turns-next}
 use Rattle.template.proofs.fill_until.Statement.{statement}
 use Rattle.template.proofs.fill_until.Tie as tie
 
 abbrev Inv-loop : tie.InvT-loop
-Inv-loop b end start n area₀ at₀ left₀ to₀ area at left to =
+Inv-loop b end start n area₀ at₀ left₀ same₀ to₀ area at left same to =
     (at ≤ end)
-    × (to + 12 * left ≤ length area)
+    × (to + width TEMPLATES * left ≤ length area)
     × (length area ≡ length area₀)
     × (verdict (run (many (templateAt (until end)) next left at) b) ≡ verdicts.Fine)
     × (rest (templateAt (until end)) next templateWords b area₀ n start 0 ≡ rest (templateAt (until end)) next templateWords b area left at to)
 
 abbrev μ-loop : tie.MeasureT-loop
-μ-loop b end start n area₀ at₀ left₀ to₀ area at left to = left
+μ-loop b end start n area₀ at₀ left₀ same₀ to₀ area at left same to = turns b at left same
 
-loop-holds : tie.Need-loop-holds Inv-loop μ-loop
-loop-holds c = (search needs, search needs, refl, search needs, refl)
+word-requires : tie.Need-word-requires Inv-loop μ-loop
+word-requires c κs = let f = first-fine _ _ _ _ _ refl (c .loop-test .taken) (c .before .loop .inv .3) in omega arith
 
-template-at-requires : tie.Need-template-at-requires Inv-loop μ-loop
-template-at-requires c κs = search needs
-
-enum-known-t : tie.Need-enum-known-t Inv-loop μ-loop
-enum-known-t c = search needs
-
-enum-told : tie.Need-enum-told Inv-loop μ-loop
-enum-told c = search needs
-
-same-length : tie.Need-same-length Inv-loop μ-loop
-same-length c = search needs
-
-returns : tie.Need-returns Inv-loop μ-loop
-returns c =
-    let m = c .before .before in
-    let stop = many-stop _ next _ _ _ _ (m .before .loop-test .taken) (is-refused _ _ (sym (c .enum-told .given .1) ∙ m .template-at .ensures)) in
-    absurd (not-fine _ (sym stop ∙ m .before .before .loop .inv .3))
-
-put-requires : tie.Need-put-requires Inv-loop μ-loop
-put-requires c κs = search needs
-
-next-at-requires : tie.Need-next-at-requires Inv-loop μ-loop
-next-at-requires c κs = search needs
-
-sub-left : tie.Need-sub-left Inv-loop μ-loop
-sub-left c = search needs
-
-add-to : tie.Need-add-to Inv-loop μ-loop
-add-to c = search needs
+template-of-requires : tie.Need-template-of-requires Inv-loop μ-loop
+template-of-requires c κs =
+    let w = c .before .before in
+    let m = w .before in
+    let f = first-fine _ _ _ _ _ (sym (c .before .if1 .taken) ∙ w .word .ensures) (m .loop-test .taken) (m .before .loop .inv .3) in
+    omega arith
 
 loop-less : tie.Need-loop-less Inv-loop μ-loop
-loop-less c = search needs
+loop-less c = turns-next _ _ _ _ _ _ (c .before .before .before .before .before .before .before .loop-test .taken)
 
 loop-again : tie.Need-loop-again Inv-loop μ-loop
 loop-again c =
-    let p = c .before .before .before in
-    let l = p .before .before .before in
-    let m = l .before .before in
-    let inv = m .before .before .loop .inv in
-    let found = is-done _ _ (sym (l .t .given .1) ∙ m .template-at .ensures) in
-    rw (c .next-at .ensures) (
-      template-next _ _ _ _ found,
+    let p = c .before .before in
+    let e = p .before .before .before in
+    let m = e .before .before in
+    let inv = m .before .loop .inv in
+    let f = first-fine _ _ _ _ _ (sym (e .if1 .taken) ∙ e .before .word .ensures) (m .loop-test .taken) (inv .3) in (
+      f .0 .ends,
       omega (arith, p .put .kept .0),
       p .put .kept .0 ∙ inv .2,
-      sym (many-more _ next _ _ _ _ (m .before .loop-test .taken) found) ∙ inv .3,
-      inv .4 ∙ rest-more _ next templateWords _ _ _ _ _ _ _ (p .put .ensures) (m .before .loop-test .taken) found (inv .3),
+      sym (many-more _ next _ _ _ _ (m .loop-test .taken) (f .1)) ∙ inv .3,
+      inv .4 ∙ rest-more _ next templateWords _ _ _ _ _ _ _ (rw (p .before .template-of .ensures) at (p .put .ensures)) (m .loop-test .taken) (f .1) (inv .3),
     )
 
-same-length-2 : tie.Need-same-length-2 Inv-loop μ-loop
-same-length-2 c = search needs
+loop-less-2 : tie.Need-loop-less-2 Inv-loop μ-loop
+loop-less-2 c = turns-again _ _ _ _ _ (c .before .word .ensures) (c .if1 .left)
 
-returns-2 : tie.Need-returns-2 Inv-loop μ-loop
-returns-2 c = sym (c .before .loop .inv .4 ∙ rest-none _ next templateWords _ _ _ _ _ (c .loop-test .left))
+returns : tie.Need-returns Inv-loop μ-loop
+returns c = sym (c .before .loop .inv .4 ∙ rest-none _ next templateWords _ _ _ _ _ (c .loop-test .left))
 
 pub fill-until-spec : {M : Type 1} → statement M
 fill-until-spec =
-    tie.close
-    (tie.spec
-    Inv-loop
-    μ-loop
-    loop-holds
-    template-at-requires
-    enum-known-t
-    enum-told
-    same-length
-    returns
-    put-requires
-    next-at-requires
-    sub-left
-    add-to
-    loop-less
-    loop-again
-    same-length-2
-    returns-2)
+    tie.close (
+    tie.spec Inv-loop μ-loop (λ c. (search needs, search needs, refl, search needs, refl)) (λ c. search needs) word-requires template-of-requires
+    (λ c κs. search needs) (λ c. search needs) (λ c. search needs) (λ c. search needs) (λ c. search needs) loop-less loop-again loop-less-2 (λ c. search needs)
+    (λ c. search needs) returns)

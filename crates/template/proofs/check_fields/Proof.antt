@@ -1,0 +1,45 @@
+-- The counts decide first, then the items.
+use mathlib.Core.Path.{_≡_, ap, sym, _∙_}
+use mathlib.Core.Bool.{true, not, _||_}
+use mathlib.Core.Logic.{⊎-elim}
+use lib.Dec.{eqb}
+use borrow.Author.Tests.{eq-eqb, ne-eqb, not-true, not-false}
+use borrow.Author.Needs.{needs}
+use Rattle.blob.specs.declared.Verdict.the-variants as verdicts
+use Rattle.blob.specs.Reading.{then}
+use Rattle.blob.specs.Laws.{run-bind, run-number, run-demand}
+use Rattle.words.specs.Guid.{guid-found}
+use Rattle.template.specs.Temp.{fields-items}
+use Rattle.template.proofs.check_fields.Statement.{statement}
+use Rattle.template.proofs.check_fields.Tie as tie
+
+returns : tie.Need-returns
+unfolding then
+returns c =
+    let w = c .before .before .before in
+    simp (
+      run-number,
+      run-bind,
+      guid-found,
+      run-demand,
+      sym (w .before .word .ensures),
+      sym (w .word2 .ensures),
+      eq-eqb _ _ (c .before .before .if1 .taken),
+      not-true (eqb (w .word2 .result) 0) (c .before .if2 .taken),
+    ) (ap verdicts.Refused (c .count-out .ensures))
+
+-- no names without descriptors
+counted : (c : tie.Joined1) → (not (eqb (c .before .before .word .result) 0) || eqb (c .before .word2 .result) 0) ≡ true
+counted c = ⊎-elim (λ w. rw (eq-eqb _ _ (w .0 .taken), not-false (eqb (c .before .word2 .result) 0) (w .1 .left))) (λ w. rw (ne-eqb _ _ (w .left))) (c .if1 .came)
+
+returns-2 : tie.Need-returns-2
+returns-2 c =
+    let i = c .before in
+    let j = i .before .before in
+    c .items-at .ensures ∙ sym (fields-items _ _ _ _ _ _ _ (j .before .before .word .ensures) (j .before .word2 .ensures) (i .before .word3 .ensures) (i .items-of .ensures) (counted j))
+
+pub check-fields-spec : {M : Type 1} → statement M
+check-fields-spec =
+    tie.close (
+    tie.spec (λ c. search needs) (λ c κs. search needs) (λ c. search needs) (λ c κs. search needs) (λ c. search needs) (λ c κs. search needs)
+    returns (λ c. search needs) (λ c κs. search needs) (λ c. search needs) (λ c κs. search needs) (λ c κs. search needs) returns-2)
