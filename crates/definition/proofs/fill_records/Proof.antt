@@ -7,6 +7,7 @@ use lib.ListN.{length}
 use Rattle.blob.specs.declared.Verdict.the-variants as verdicts
 use Rattle.blob.specs.Reading.{run, verdict}
 use Rattle.blob.specs.Laws.{many-more, rest, rest-more, rest-none}
+use Rattle.format.specs.Area.{DEFINITIONS, width}
 use Rattle.format.specs.Table.{stride}
 use Rattle.format.specs.Definition.{definitionAt, step}
 use Rattle.format.specs.Lists.{definitionWords}
@@ -18,7 +19,7 @@ use Rattle.definition.proofs.fill_records.Tie as tie
 abbrev Inv-loop : tie.InvT-loop
 Inv-loop b kind start n area₀ bytes at₀ left₀ to₀ area at left to =
     (at + bytes * left ≤ length b)
-    × (to + 12 * left ≤ length area)
+    × (to + width DEFINITIONS * left ≤ length area)
     × (length area ≡ length area₀)
     × (verdict (run (rows kind bytes left at) b) ≡ verdicts.Fine)
     × (rest (definitionAt kind) (step (stride kind)) definitionWords b area₀ n start 0 ≡ rest (definitionAt kind) (step bytes) definitionWords b area left at to)
