@@ -22,8 +22,7 @@ use format::field::OPCO_DATA;
 use format::field::TASK_DATA;
 use format::kind::CHAN;
 use format::kind::KEYW;
-use format::kind::LEVL;
-use format::kind::OPCO;
+use format::kind::KINDS;
 use format::kind::TASK;
 use format::list::width;
 use name::absent;
@@ -32,19 +31,24 @@ use table::stride;
 use table::table_end;
 use words::guid_at;
 
-// The field of a kind's names; 0 where it has none.
+// By a kind's number: the field of its names; 0 where it has none.
+const NAMES: [u8; KINDS] = [
+    0,
+    CHAN_NAME,
+    0,
+    KEYW_DATA,
+    LEVL_DATA,
+    0,
+    OPCO_DATA,
+    TASK_DATA,
+    0,
+];
+
 fn name_field(kind: u32) -> u8
     requires { ⌜ kind ≤ 8 ⌝ }
     ensures { λ r. ⌜ r ≡ name-field kind ⌝ }
 {
-    match kind {
-        CHAN => CHAN_NAME,
-        KEYW => KEYW_DATA,
-        LEVL => LEVL_DATA,
-        OPCO => OPCO_DATA,
-        TASK => TASK_DATA,
-        _ => 0,
-    }
+    NAMES[kind as usize]
 }
 
 // No GUID, of a kind that has none.
