@@ -41,6 +41,10 @@ pub fine-value : {A : Type 0} (o : Outcome A) → verdict o ≡ verdicts.Fine �
 fine-value (done a) v = (a, refl)
 fine-value (refused r) v = absurd (not-fine r v)
 
+pub refused-value : {A : Type 0} (o : Outcome A) (r : Refusal) → verdicts.Refused r ≡ verdict o → o ≡ refused r
+refused-value (done a) r h = absurd (not-fine r h)
+refused-value (refused q) r h = cc
+
 -- what an accepted outcome was made of
 pub then-done : {A B : Type 0} (o : Outcome A) (f : A → Outcome B) (b : B) → then o f ≡ done b → (a : A) × (o ≡ done a) × (f a ≡ done b)
 unfolding then
@@ -51,6 +55,16 @@ then-done (refused r) f b e = absurd (never _ _ e)
 pub both : (a b : Bool) → (a && b) ≡ true → (a ≡ true) × (b ≡ true)
 both true b e = (refl, e)
 both false b e = absurd (let z : _≡_ {A = ℕ} 0 1 = cc in omega arith)
+
+-- a test that each number below n passes, as one that computes
+abbrev pub all-below : ℕ → (ℕ → Bool) → Bool
+all-below zero p = true
+all-below (suc n) p = p 0 && all-below n (λ i. p (suc i))
+
+pub passes : (n : ℕ) (p : ℕ → Bool) → all-below n p ≡ true → (i : ℕ) → i < n → p i ≡ true
+passes zero p e i h = absurd (omega arith)
+passes (suc n) p e zero h = both (p 0) _ e .0
+passes (suc n) p e (suc i) h = passes n (λ i. p (suc i)) (both (p 0) _ e .1) i (omega arith)
 
 pub choose-done : {A : Type 0} (t : Bool) (o : Outcome A) (r : Refusal) (a : A) → choose t o (refused r) ≡ done a → (t ≡ true) × (o ≡ done a)
 choose-done true o r a e = (refl, e)
@@ -104,6 +118,14 @@ run-after p f s a e = run-bind p f s ∙ ap (λ o. then o (λ n. run (f n) s)) e
 pub run-stopped : {A B : Type 0} (p : Reading A) (f : A → Reading B) (s : List ℕ) (r : Refusal) → run p s ≡ refused r → run (p >>= f) s ≡ refused r
 unfolding then
 run-stopped p f s r e = run-bind p f s ∙ ap (λ o. then o (λ n. run (f n) s)) e
+
+-- where all of a sequence is fine, its first is, and what goes by it
+pub bind-fine : {A B : Type 0} (p : Reading A) (f : A → Reading B) (s : List ℕ) → verdict (run (p >>= f) s) ≡ verdicts.Fine
+    → (a : A) × (run p s ≡ done a) × (verdict (run (f a) s) ≡ verdicts.Fine)
+bind-fine p f s v =
+    let b = fine-value (run (p >>= f) s) v in
+    let t = then-done (run p s) (λ a. run (f a) s) (b .0) (sym (run-bind p f s) ∙ b .1) in
+    (t .0, t .1, ap verdict (t .2))
 
 pub run-number : {B : Type 0} (w p : ℕ) (f : ℕ → Reading B) (s : List ℕ) → run (number w p >>= f) s ≡ run (f (le w s p)) s
 run-number w p f s = run-after (number w p) f s _ (finds-number w p s)
@@ -189,6 +211,14 @@ module _ {S A : Type 0} (p : S → Reading A) (next : A → S → S) where
   pub many-stop : (left : ℕ) (at : S) (s : List ℕ) (r : Refusal) → 0 < left → run (p at) s ≡ refused r
       → verdict (run (many p next left at) s) ≡ verdicts.Refused r
   many-stop left at s r h e = ap verdict (many-refused left at s r h e)
+
+  -- where all that are left are fine, the next one is
+  pub many-first : (left : ℕ) (at : S) (s : List ℕ) → 0 < left → verdict (run (many p next left at) s) ≡ verdicts.Fine → verdict (run (p at) s) ≡ verdicts.Fine
+  many-first left at s h v = go (run (p at) s) refl
+    where
+      go : (o : Outcome A) → run (p at) s ≡ o → verdict o ≡ verdicts.Fine
+      go (done a) e = refl
+      go (refused r) e = absurd (not-fine r (sym (many-stop left at s r h e) ∙ v))
 
   pub many-none : (left : ℕ) (at : S) (s : List ℕ) → left ≤ 0 → verdict (run (many p next left at) s) ≡ verdicts.Fine
   many-none left at s h = ap verdict (many-empty left at s h)

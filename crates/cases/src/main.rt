@@ -1,23 +1,25 @@
 // Reads each blob of the input and prints what is answered: a line with the blob's name, code, field, place, both numbers and the
 // counts, and behind that of an accepted one a line with the words of each list that has entries.
-// The input is a row of records of 640 bytes: twelve 32-bit little-endian numbers, which are the lengths of the name and of the blob and the
-// ten capacities; 80 bytes with the name; 512 bytes with the blob.
-ghost use Prim.Native.Nat.{_+_, _≤_, _<_};
+// The input is a row of records: 32-bit little-endian numbers, which are the lengths of the name and of the blob and a capacity for each
+// list; 80 bytes with the name; 512 bytes with the blob.
+ghost use Prim.Native.Nat.{_+_, _*_, _≤_, _<_};
 ghost use lib.ListN.{length};
+ghost use Rattle.format.specs.Area.{AREAS};
 use format::Answer;
 use format::list::AREAS;
+use format::list::EACH;
 use libc::STDIN_FILENO;
 use libc::STDOUT_FILENO;
 
 // Where a record's name and its blob start, and where it ends.
-const NAME: usize = 48;
+const NAME: usize = 8 + 4 * AREAS;
 
-const BLOB: usize = 128;
+const BLOB: usize = NAME + 80;
 
-const RECORD: usize = 640;
+const RECORD: usize = BLOB + 512;
 
-// The lent words: ten areas of 64 entries.
-const WORDS: usize = 5056;
+// The lent words: an area of 64 entries for each list.
+const WORDS: usize = 64 * EACH;
 
 fn wide(x: u32) -> u64 {
     x as u64
@@ -32,16 +34,20 @@ fn say_line_end() {
     io::write_all(STDOUT_FILENO, b"\n");
 }
 
-fn say_count(n: u32) {
+fn say_word(n: u32) {
     say(b" ", wide(n));
 }
 
-fn say_counts(c: [u32; AREAS]) {
+fn say_words(words: &[u32]) {
     let mut i = 0;
-    while i < AREAS {
-        say_count(c[i]);
+    while i < words.len() {
+        say_word(words[i]);
         i += 1;
     }
+}
+
+fn say_counts(c: [u32; AREAS]) {
+    say_words(&c);
 }
 
 fn say_answer(name: &[u8], a: Answer) {
@@ -57,36 +63,25 @@ fn say_answer(name: &[u8], a: Answer) {
     say_line_end();
 }
 
-fn say_words(words: &[u32]) {
-    let mut i = 0;
-    while i < words.len() {
-        say_count(words[i]);
-        i += 1;
-    }
-}
-
-// Prints the words of the list of a row that has entries; hands back where its area ends.
-fn say_list(row: usize, words: &[u32], from: usize, count: u32, capacity: u32) -> usize
-    requires { ⌜ (row < 10) × (from ≤ 687194767360) ⌝ }
-    ensures { λ r. ⌜ r ≤ from + 68719476736 ⌝ }
+// Prints the words of the list of a row, where it has entries.
+fn say_list(row: usize, words: &[u32], n: [u32; AREAS], capacities: [u32; AREAS])
+    requires { ⌜ row < AREAS ⌝ }
 {
-    let to = from + counts::words_of(count, row);
-    if 0 < count && to <= words.len() {
+    let from = counts::area_at(capacities, row);
+    let to = from + counts::words_of(n[row], row);
+    if from < to && to <= words.len() {
         say(b"  list ", wide(counts::number_of(row)));
         io::write_all(STDOUT_FILENO, b":");
         say_words(&words[from..to]);
         say_line_end();
     }
-    from + counts::words_of(capacity, row)
 }
 
-// The areas start one where the one before ends.
-fn say_lists(words: &[u32], n: [u32; AREAS], c: [u32; AREAS]) {
-    let mut i = 0;
-    let mut to = 0;
-    while i < AREAS {
-        to = say_list(i, words, to, n[i], c[i]);
-        i += 1;
+fn say_lists(words: &[u32], n: [u32; AREAS], capacities: [u32; AREAS]) {
+    let mut row = 0;
+    while row < AREAS {
+        say_list(row, words, n, capacities);
+        row += 1;
     }
 }
 
@@ -101,7 +96,7 @@ fn show(name: &[u8], blob: &[u8], capacities: [u32; AREAS]) {
 }
 
 fn capacities(row: &[u8]) -> [u32; AREAS]
-    requires { ⌜ 48 ≤ length (now row) ⌝ }
+    requires { ⌜ 8 + 4 * AREAS ≤ length (now row) ⌝ }
 {
     let mut c = [0; AREAS];
     let mut i = 0;
@@ -118,7 +113,7 @@ fn say_broken() {
 
 // One record; whether there may be more.
 fn show_record(row: &[u8]) -> bool
-    requires { ⌜ 640 ≤ length (now row) ⌝ }
+    requires { ⌜ 600 + 4 * AREAS ≤ length (now row) ⌝ }
 {
     let name = blob::word(row, 0);
     let blob = blob::word(row, 4);

@@ -6,18 +6,18 @@ use native.Mathlib.Omega.{arith}
 use mathlib.Core.Path.{_≡_, refl, ap, sym, _∙_}
 use mathlib.Core.Bool.{Bool, true, false, _&&_}
 use mathlib.Core.List.{List, [], _∷_, map}
-use lib.Dec.{leb}
+use lib.Dec.{leb, ltb, eqb}
 use lib.ListN.{length, getD, drop, take, set, drop-of-length-le}
-use borrow.Author.Tests.{le-leb, lt-leb}
+use borrow.Author.Tests.{le-leb, lt-leb, leb-true, ltb-true, eqb-true}
 use Rattle.blob.specs.Places.{Each}
+use Rattle.blob.specs.Laws.{both, passes}
 use Rattle.blob.specs.Reading.{choose}
 use Rattle.blob.specs.declared.Verdict.{Verdict}
 use Rattle.blob.specs.declared.Verdict.the-variants as verdicts
-use Rattle.format.specs.Area.{Row, rows, AREAS, place}
+use Rattle.format.specs.Area.{Row, rows, AREAS, WIDEST, place}
 use Rattle.format.specs.Answer.{too-small, capped, moderate, areas}
 use Rattle.format.specs.steps.Needs.{plus, modest}
-use Rattle.format.specs.Table.{kindList}
-use Rattle.format.specs.theorems.Listed.{First, first}
+use Rattle.format.specs.Table.{kinds, kindList}
 
 unfoldable pub short : List Row → List ℕ → List ℕ → Verdict
 short [] cs ks = verdicts.Fine
@@ -42,26 +42,22 @@ each-most [] m e i = omega arith
 each-most (n ∷ ns) m e zero = e .0
 each-most (n ∷ ns) m e (suc i) = each-most ns m (e .1) i
 
--- no entry has more than 16 words
-pub width-most : (i : ℕ) → getD widths i 0 ≤ 16
-width-most i = each-most widths 16 (omega arith, (omega arith, (omega arith, (omega arith, (omega arith, (omega arith, (omega arith, (omega arith, (omega arith, (omega arith, tt)))))))))) i
+pub width-most : (i : ℕ) → i < AREAS → getD widths i 0 ≤ WIDEST
+width-most i h = leb-true _ _ (passes AREAS (λ i. leb (getD widths i 0) WIDEST) refl i h)
 
--- so many entries of at most 16 words have no more of them than a word counts
-pub words-most : (n w : ℕ) → n < 4294967296 → w ≤ 16 → n * w ≤ 68719476720
-words-most n w h g = let l : n ≤ 4294967295 = omega arith in mul-le-mul l g
+-- so many entries have no more words than a word counts of the widest
+pub words-most : (n w : ℕ) → n < 4294967296 → w ≤ WIDEST → n * w ≤ WIDEST * 4294967295
+words-most n w h g = let l : n ≤ 4294967295 = omega arith in omega (arith, mul-le-mul l g)
 
 -- the rows of kinds
-pub kind-row : (k : ℕ) → 1 ≤ k → k ≤ 8
-    → getD (AREAS ∷ 4 ∷ 5 ∷ 4 ∷ 4 ∷ 6 ∷ 4 ∷ 4 ∷ 8 ∷ []) k 0 ≡ place (kindList k)
-kind-row k h g =
-    first (λ i. getD (AREAS ∷ 4 ∷ 5 ∷ 4 ∷ 4 ∷ 6 ∷ 4 ∷ 4 ∷ 8 ∷ []) i 0 ≡ place (kindList i)) 9 (refl, (refl, (refl, (refl, (refl, (refl, (refl, (refl, (refl, tt))))))))) k (omega arith)
+abbrev pub kind-rows : List ℕ
+kind-rows = AREAS ∷ map (λ k. place (kindList k)) kinds
 
-pub kind-row-most : (k : ℕ) → 1 ≤ k → k ≤ 8 → place (kindList k) < AREAS
-kind-row-most k h g = go k h g
-  where
-    go : (k : ℕ) → 1 ≤ k → k ≤ 8 → place (kindList k) < AREAS
-    go zero h g = absurd (omega arith)
-    go (suc k) h g = first (λ i. place (kindList (suc i)) < AREAS) 8 (omega arith, (omega arith, (omega arith, (omega arith, (omega arith, (omega arith, (omega arith, (omega arith, tt)))))))) k (omega arith)
+pub kind-row : (k : ℕ) → 1 ≤ k → k ≤ 8 → (getD kind-rows k 0 ≡ place (kindList k)) × (getD kind-rows k 0 < AREAS)
+kind-row zero h g = absurd (omega arith)
+kind-row (suc k) h g =
+    let t = both _ _ (passes 8 (λ k. eqb (getD kind-rows (suc k) 0) (place (kindList (suc k))) && ltb (getD kind-rows (suc k) 0) AREAS) refl k (omega arith)) in
+    (eqb-true _ _ (t .0), ltb-true _ _ (t .1))
 
 -- row by row: what is left decides
 pub short-step : (rs : List Row) (cs ks : List ℕ) (i : ℕ) → i < length rs → i < length cs → i < length ks

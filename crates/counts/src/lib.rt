@@ -67,7 +67,7 @@ pub fn add(all: [u32; AREAS], more: [u32; AREAS]) -> [u32; AREAS]
 // The words of an entry, and the number of its list, by the list's row.
 pub fn width_of(row: usize) -> usize
     requires { ⌜ row < area.AREAS ⌝ }
-    ensures { λ r. ⌜ (r ≡ getD widths row 0) × (r ≤ 16) ⌝ }
+    ensures { λ r. ⌜ (r ≡ getD widths row 0) × (r ≤ area.WIDEST) ⌝ }
 {
     WORDS[row]
 }
@@ -82,7 +82,7 @@ pub fn number_of(row: usize) -> u32
 // The words of so many entries of a list.
 pub fn words_of(entries: u32, row: usize) -> usize
     requires { ⌜ row < area.AREAS ⌝ }
-    ensures { λ r. ⌜ (r ≡ entries * getD widths row 0) × (r ≤ 68719476720) ⌝ }
+    ensures { λ r. ⌜ (r ≡ entries * getD widths row 0) × (r ≤ area.WIDEST * 4294967295) ⌝ }
 {
     (entries as usize) * width_of(row)
 }
@@ -106,7 +106,7 @@ pub fn lent_enough(c: [u32; AREAS], words: usize) -> bool
 // Where the area of a row starts: those before it end there.
 pub fn area_at(c: [u32; AREAS], row: usize) -> usize
     requires { ⌜ row < area.AREAS ⌝ }
-    ensures { λ r. ⌜ (r ≡ answer.areas area.rows (take row c)) × (r ≤ 687194767200) ⌝ }
+    ensures { λ r. ⌜ (r ≡ answer.areas area.rows (take row c)) × (r ≤ area.AREAS * (area.WIDEST * 4294967295)) ⌝ }
 {
     let mut sum = 0;
     let mut i = 0;

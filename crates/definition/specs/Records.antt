@@ -5,19 +5,16 @@ use mathlib.Core.List.{List}
 use mathlib.Core.Bool.{Bool, true, false}
 use native.Mathlib.Nat.{add-comm, mul-suc}
 use native.Mathlib.Omega.{arith}
-use borrow.Author.Tests.{ne-eqb}
 use lib.Dec.{eqb}
 use lib.ListN.{length}
 use Rattle.blob.specs.Le.{le}
 use Rattle.blob.specs.Reading.{Reading, Outcome, done, refused, choose, run, many, verdict}
-use Rattle.blob.specs.Laws.{not-fine, fine-value, run-number, run-after, run-stopped}
+use Rattle.blob.specs.Laws.{fine-value, refused-value, bind-fine, run-number, run-after, run-stopped}
 use Rattle.format.specs.Region.{blob-end, until}
 use Rattle.format.specs.theorems.Until.{name-until}
-use Rattle.name.specs.Read.{is-refused}
-use Rattle.table.specs.Headers.{no, of-kinds}
 use Rattle.words.specs.Guid.{guid-found}
 use Rattle.format.specs.Name.{absent, nameAt}
-use Rattle.format.specs.Table.{CHAN, KEYW, LEVL, OPCO, TASK, header-length, stride, tableEnd}
+use Rattle.format.specs.Table.{CHAN, KEYW, TASK, header-length, stride, tableEnd}
 use Rattle.format.specs.Definition.{guidAt, channelFields, keywordFields, taskFields, plainFields, fieldsAt, name-field, named, definitionAt, step, definitionsAt}
 use Rattle.blob.specs.declared.Refusal.{Refusal}
 use Rattle.format.specs.declared.Guid.{Guid}
@@ -25,39 +22,6 @@ use Rattle.format.specs.declared.Name.{Name}
 use Rattle.format.specs.declared.Definition.{Definition}
 use Rattle.format.specs.declared.Header.{Header}
 use Rattle.blob.specs.declared.Verdict.the-variants as verdicts
-
--- the other kinds have no names
-pub no-name : (k : ℕ) → k ≤ 8 → no k CHAN → no k KEYW → no k LEVL → no k OPCO → no k TASK → name-field k ≡ 0
-no-name =
-    of-kinds (λ k. no k CHAN → no k KEYW → no k LEVL → no k OPCO → no k TASK → name-field k ≡ 0) (λ a b c d e. refl) (λ a b c d e. absurd (a refl)) (λ a b c d e. refl) (λ a b c d e. absurd (b refl)) (λ a b c d e. absurd (c refl)) (λ a b c d e. refl) (λ a b c d e. absurd (d refl)) (λ a b c d e. absurd (e refl)) (λ a b c d e. refl)
-
--- a record's length, by its kind
-pub of-channel : (k : ℕ) → k ≡ CHAN → stride k ≡ 16
-of-channel k e = rw e
-
-pub of-keyword : (k : ℕ) → k ≡ KEYW → stride k ≡ 16
-of-keyword k e = rw e
-
-pub of-task : (k : ℕ) → k ≡ TASK → stride k ≡ 28
-of-task k e = rw e
-
--- a record's fields, by its kind
-module _ (k at : ℕ) (s : List ℕ) where
-  pub fields-channel : k ≡ CHAN → run (fieldsAt k at) s ≡ run (channelFields at) s
-  unfolding fieldsAt
-  fields-channel e = rw e
-
-  pub fields-keyword : k ≡ KEYW → run (fieldsAt k at) s ≡ run (keywordFields at) s
-  unfolding fieldsAt
-  fields-keyword e = rw e
-
-  pub fields-task : k ≡ TASK → run (fieldsAt k at) s ≡ run (taskFields at) s
-  unfolding fieldsAt
-  fields-task e = rw e
-
-  pub fields-plain : (k ≡ CHAN → ⊥) → (k ≡ KEYW → ⊥) → (k ≡ TASK → ⊥) → run (fieldsAt k at) s ≡ run (plainFields k at) s
-  unfolding fieldsAt
-  fields-plain c w t = rw (ne-eqb k CHAN c, ne-eqb k KEYW w, ne-eqb k TASK t)
 
 -- a task's fields, once its GUID is read
 pub task-found : (at : ℕ) (s : List ℕ) (g : Guid) → run (guidAt (at + 8)) s ≡ done g
@@ -80,11 +44,10 @@ module _ (k at : ℕ) (s : List ℕ) (d : Definition) (fields : run (fieldsAt k 
 
   -- a definition that is fine has a name that is
   pub name-fine : verdict (run (definitionAt k at) s) ≡ verdicts.Fine → verdict (run (nameAt (until (length s)) f (d .offset)) s) ≡ verdicts.Fine
-  name-fine v = sym (ap verdict (name-until blob-end f (d .offset) s)) ∙ go (run (nameAt blob-end f (d .offset)) s) refl
-    where
-      go : (o : Outcome Name) → run (nameAt blob-end f (d .offset)) s ≡ o → verdict o ≡ verdicts.Fine
-      go (done n) e = refl
-      go (refused r) e = absurd (not-fine r (sym (ap verdict (definition-refused r e)) ∙ v))
+  unfolding definitionAt
+  name-fine v =
+      let n = bind-fine (nameAt blob-end (name-field k) (d .offset)) _ s (ap verdict (sym (run-after (fieldsAt k at) _ s d fields)) ∙ v) in
+      rw field (ap verdict (sym (name-until blob-end (name-field k) (d .offset) s) ∙ n .1))
 
 -- where the name offset stands in a record
 abbrev pub name-place : ℕ → ℕ
@@ -113,7 +76,7 @@ module _ (k at : ℕ) (s : List ℕ) where
     record-refused r h = go (run (fieldsAt k at) s) refl offers
       where
         go : (x : Outcome Definition) → run (fieldsAt k at) s ≡ x → Offers (le 4 s (at + name-place k)) x → run (definitionAt k at) s ≡ refused r
-        go (done d) e w = definition-refused k at s d e f field r (name-until blob-end f (d .offset) s ∙ rw (w ∙ ap (λ q. le 4 s (at + q)) (sym place) ∙ sym offset) (is-refused _ r h))
+        go (done d) e w = definition-refused k at s d e f field r (name-until blob-end f (d .offset) s ∙ rw (w ∙ ap (λ q. le 4 s (at + q)) (sym place) ∙ sym offset) (refused-value _ r h))
         go (refused q) e w = absurd w
 
     pub record-found : verdicts.Fine ≡ verdict (run (nameAt (until (length s)) f o) s) → (d : Definition) × (run (definitionAt k at) s ≡ done d)
@@ -147,10 +110,5 @@ module _ (k at : ℕ) (h : Header) (s : List ℕ) where
 
   -- a table that is fine ends
   pub table-ends : verdict (run (definitionsAt k at h) s) ≡ verdicts.Fine → (e : ℕ) × (run (tableEnd k at h) s ≡ done e)
-  table-ends v = go (run (tableEnd k at h) s) refl
-    where
-      go : (o : Outcome ℕ) → run (tableEnd k at h) s ≡ o → (e : ℕ) × (o ≡ done e)
-      go (done e) g = (e, refl)
-      go (refused r) g =
-          let w : verdicts.Refused r ≡ verdicts.Fine = sym (ap verdict (table-refused r g)) ∙ v in
-          absurd (let z : _≡_ {A = ℕ} 0 1 = cc in omega arith)
+  unfolding definitionsAt
+  table-ends v = let b = bind-fine (tableEnd k at h) _ s v in (b .0, b .1)

@@ -4,6 +4,7 @@ ghost use Prim.Native.Nat.{_+_, _*_, _≤_};
 ghost use lib.ListN.{length};
 ghost use Rattle.blob.specs.Reading.{run, done, verdict, values};
 ghost use Rattle.blob.specs.Laid.{laid, flat};
+ghost use Rattle.format.specs.Area.{DEFINITIONS, width};
 ghost use Rattle.format.specs.Table.{header-length, stride};
 ghost use Rattle.format.specs.Definition.{channelFields, keywordFields, taskFields, plainFields, fieldsAt, name-field, named, definitionAt, definitionsAt};
 ghost use Rattle.format.specs.Lists.{definitionWords};
@@ -21,28 +22,33 @@ use format::field::OPCO_DATA;
 use format::field::TASK_DATA;
 use format::kind::CHAN;
 use format::kind::KEYW;
-use format::kind::LEVL;
-use format::kind::OPCO;
+use format::kind::KINDS;
 use format::kind::TASK;
+use format::list::width;
 use name::absent;
 use table::header_length;
 use table::stride;
 use table::table_end;
 use words::guid_at;
 
-// The field of a kind's names; 0 where it has none.
+// By a kind's number: the field of its names; 0 where it has none.
+const NAMES: [u8; KINDS] = [
+    0,
+    CHAN_NAME,
+    0,
+    KEYW_DATA,
+    LEVL_DATA,
+    0,
+    OPCO_DATA,
+    TASK_DATA,
+    0,
+];
+
 fn name_field(kind: u32) -> u8
     requires { ⌜ kind ≤ 8 ⌝ }
     ensures { λ r. ⌜ r ≡ name-field kind ⌝ }
 {
-    match kind {
-        CHAN => CHAN_NAME,
-        KEYW => KEYW_DATA,
-        LEVL => LEVL_DATA,
-        OPCO => OPCO_DATA,
-        TASK => TASK_DATA,
-        _ => 0,
-    }
+    NAMES[kind as usize]
 }
 
 // No GUID, of a kind that has none.
@@ -209,7 +215,7 @@ fn definition_of(b: &[u8], kind: u32, at: usize) -> Definition
 
 // Stores a definition's words from a place of the area on.
 fn put_definition(area: &mut [u32], to: usize, d: Definition)
-    requires { ⌜ to + 12 ≤ length (now area) ⌝ }
+    requires { ⌜ to + width DEFINITIONS ≤ length (now area) ⌝ }
     ensures { λ _. ⌜ now (area .exit) ≡ laid (now (area .entry)) to (definitionWords d) ⌝ }
 {
     let entry = [
@@ -234,7 +240,7 @@ fn fill_records(b: &[u8], kind: u32, start: usize, n: u32, area: &mut [u32])
     requires { ⌜ (kind ≤ 8) × (12 ≤ stride kind) × (start + stride kind * n ≤ length (now b)) ⌝ }
     requires { ⌜ length (now b) ≤ 16777216 ⌝ }
     requires { ⌜ verdict (run (rows kind (stride kind) n start) (now b)) ≡ Verdict.Fine ⌝ }
-    requires { ⌜ 12 * n ≤ length (now area) ⌝ }
+    requires { ⌜ width DEFINITIONS * n ≤ length (now area) ⌝ }
     ensures { λ _. ⌜ now (area .exit) ≡ laid (now (area .entry)) 0 (flat definitionWords (values (run (rows kind (stride kind) n start) (now (b .entry))))) ⌝ }
 {
     let bytes = stride(kind) as usize;
@@ -245,7 +251,7 @@ fn fill_records(b: &[u8], kind: u32, start: usize, n: u32, area: &mut [u32])
         put_definition(area, to, definition_of(b, kind, at));
         at += bytes;
         left -= 1;
-        to += 12;
+        to += width::DEFINITIONS;
     }
 }
 
@@ -254,7 +260,7 @@ pub fn fill_definitions(b: &[u8], kind: u32, at: usize, h: Header, area: &mut [u
     requires { ⌜ (1 ≤ kind) × (kind ≤ 8) × (12 ≤ stride kind) × (at + header-length kind ≤ length (now b)) ⌝ }
     requires { ⌜ length (now b) ≤ 16777216 ⌝ }
     requires { ⌜ verdict (run (definitionsAt kind at h) (now b)) ≡ Verdict.Fine ⌝ }
-    requires { ⌜ 12 * h .count ≤ length (now area) ⌝ }
+    requires { ⌜ width DEFINITIONS * h .count ≤ length (now area) ⌝ }
     ensures { λ _. ⌜ now (area .exit) ≡ laid (now (area .entry)) 0 (flat definitionWords (values (run (definitionsAt kind at h) (now (b .entry))))) ⌝ }
 {
     fill_records(b, kind, at + header_length(kind) as usize, h.count, area);

@@ -10,6 +10,7 @@ use lib.Dec.{leb, eqb}
 use borrow.Author.Tests.{eqb-true}
 use Rattle.blob.specs.Laid.{laid, laid-between}
 use Rattle.blob.specs.Reading.{refused, choose}
+use Rattle.format.specs.Area.{AREAS}
 use Rattle.format.specs.Answer.{answer, needing, held, own}
 use Rattle.format.specs.theorems.Determined.{needs-refused}
 use Rattle.ducatfeather.specs.Call.{misfit, each-row}
@@ -34,10 +35,10 @@ module _ (a told : List ℕ) (i : ℕ) where
   laid-none h = rw (drop-of-length-le told {i = i} h)
 
 -- a capacity and a count for each row
-pub rows-of : (capacities counts : List ℕ) → each-row capacities counts ≡ true → (length capacities ≡ 10) × (length counts ≡ 10)
-rows-of capacities counts e = go (eqb (length capacities) 10) refl e
+pub rows-of : (capacities counts : List ℕ) → each-row capacities counts ≡ true → (length capacities ≡ AREAS) × (length counts ≡ AREAS)
+rows-of capacities counts e = go (eqb (length capacities) AREAS) refl e
   where
-    go : (b : Bool) → eqb (length capacities) 10 ≡ b → (b && eqb (length counts) 10) ≡ true → (length capacities ≡ 10) × (length counts ≡ 10)
+    go : (b : Bool) → eqb (length capacities) AREAS ≡ b → (b && eqb (length counts) AREAS) ≡ true → (length capacities ≡ AREAS) × (length counts ≡ AREAS)
     go true p q = (eqb-true _ _ p, eqb-true _ _ q)
     go false p q = absurd (let z : _≡_ {A = ℕ} 0 1 = cc in omega arith)
 

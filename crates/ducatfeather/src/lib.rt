@@ -3,6 +3,7 @@ ghost use mathlib.Core.Path.{_≡_};
 ghost use mathlib.Core.List.{_∷_};
 ghost use lib.ListN.{length, getD};
 ghost use Rattle.blob.specs.Reading.{refused};
+ghost use Rattle.format.specs.Area.{AREAS};
 ghost use Rattle.format.specs.Answer as spec;
 ghost use Rattle.format.specs.Lookup as right;
 ghost use Rattle.ducatfeather.specs.Call as call;
@@ -23,7 +24,7 @@ const NUMBERS: usize = 5 + AREAS;
 
 // The lent numbers of the lists, as an array.
 fn for_lists(numbers: &[u32]) -> [u32; AREAS]
-    requires { ⌜ length (now numbers) ≡ 10 ⌝ }
+    requires { ⌜ length (now numbers) ≡ AREAS ⌝ }
     ensures { λ r. ⌜ r ≡ now (numbers .entry) ⌝ }
 {
     let mut all = [0; AREAS];

@@ -4,10 +4,12 @@ ghost use Prim.Native.Nat.{_+_, _*_, _≤_};
 ghost use lib.ListN.{length};
 ghost use Rattle.blob.specs.Reading.{run, done, many, values};
 ghost use Rattle.blob.specs.Laid.{laid, flat};
+ghost use Rattle.format.specs.Area.{EVENTS, width};
 ghost use Rattle.format.specs.Definition.{step};
 ghost use Rattle.format.specs.Event.{eventAt};
 ghost use Rattle.format.specs.Lists.{eventWords};
 use format::Event;
+use format::list::width;
 
 // The event whose record stands at a place.
 fn event_at(b: &[u8], at: usize) -> Event
@@ -36,7 +38,7 @@ fn event_at(b: &[u8], at: usize) -> Event
 
 // Stores an event's words from a place of the area on.
 fn put_event(area: &mut [u32], to: usize, e: Event)
-    requires { ⌜ to + 16 ≤ length (now area) ⌝ }
+    requires { ⌜ to + width EVENTS ≤ length (now area) ⌝ }
     ensures { λ _. ⌜ now (area .exit) ≡ laid (now (area .entry)) to (eventWords e) ⌝ }
 {
     let entry = [
@@ -63,7 +65,7 @@ fn put_event(area: &mut [u32], to: usize, e: Event)
 // Stores the words of n events whose records stand one after another from a place on.
 pub fn fill_events(b: &[u8], at: usize, n: u32, area: &mut [u32])
     requires { ⌜ at + 48 * n ≤ length (now b) ⌝ }
-    requires { ⌜ 16 * n ≤ length (now area) ⌝ }
+    requires { ⌜ width EVENTS * n ≤ length (now area) ⌝ }
     ensures { λ _. ⌜ now (area .exit) ≡ laid (now (area .entry)) 0 (flat eventWords (values (run (many eventAt (step 48) n at) (now (b .entry))))) ⌝ }
 {
     let mut next = at;
@@ -73,6 +75,6 @@ pub fn fill_events(b: &[u8], at: usize, n: u32, area: &mut [u32])
         put_event(area, to, event_at(b, next));
         next += 48;
         left -= 1;
-        to += 16;
+        to += width::EVENTS;
     }
 }

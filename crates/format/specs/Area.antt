@@ -63,6 +63,10 @@ rows =
 abbrev pub AREAS : ℕ
 AREAS = 10
 
+-- no entry has more words
+abbrev pub WIDEST : ℕ
+WIDEST = 16
+
 -- which row is a list's, by its number
 abbrev pub placeIn : List Row → ℕ → ℕ
 placeIn [] l = 0

@@ -4,7 +4,7 @@ use Prim.Native.Nat.{ℕ, _+_}
 use mathlib.Core.List.{List, [], _∷_}
 use lib.ListN.{getD}
 use lib.Dec.{eqb}
-use Rattle.blob.specs.Reading.{Reading, got, Outcome, choose, _>>=_, number, many, answer}
+use Rattle.blob.specs.Reading.{Reading, got, choose, _>>=_, number, many}
 use Rattle.format.specs.Field.{CHAN-name, KEYW-data, LEVL-data, OPCO-data, TASK-data}
 use Rattle.format.specs.Region.{blob-end}
 use Rattle.format.specs.Name.{nameAt, absent}
@@ -13,8 +13,6 @@ use Rattle.format.specs.declared.Header.{Header}
 use Rattle.format.specs.declared.Name.{Name}
 use Rattle.format.specs.declared.Guid.{Guid}
 use Rattle.format.specs.declared.Definition.{Definition}
-use Rattle.format.specs.declared.DefinitionRead.{DefinitionRead}
-use Rattle.format.specs.declared.DefinitionRead.the-variants as read
 
 -- "GUID words are its 16 bytes as little-endian words." (the lists)
 unfoldable pub guidAt : ℕ → Reading Guid
@@ -76,10 +74,6 @@ named d n =
 -- a record, and then its name
 unfoldable pub definitionAt : ℕ → ℕ → Reading Definition
 definitionAt k at = fieldsAt k at >>= λ d. nameAt blob-end (name-field k) (d .offset) >>= λ n. got (named d n)
-
--- what the code answers for a definition
-abbrev pub definitionRead : Outcome Definition → DefinitionRead
-definitionRead o = answer read.Definition read.Refused o
 
 -- records of one length stand in a row
 abbrev pub step : {A : Type 0} → ℕ → A → ℕ → ℕ

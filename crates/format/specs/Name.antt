@@ -4,12 +4,10 @@
 use Prim.Native.Nat.{ℕ, zero, suc, _+_, _-_, _/_, _%_}
 use mathlib.Core.Bool.{Bool, true, false, not, _&&_}
 use lib.Dec.{leb, ltb, eqb}
-use Rattle.blob.specs.Reading.{Reading, got, Outcome, choose, demand, _>>=_, number, answer}
+use Rattle.blob.specs.Reading.{Reading, got, choose, demand, _>>=_, number}
 use Rattle.format.specs.Refuse.{truncated, size-out, offset-out, not-utf16}
 use Rattle.format.specs.Region.{Region, inside}
 use Rattle.format.specs.declared.Name.{Name}
-use Rattle.format.specs.declared.NameRead.{NameRead}
-use Rattle.format.specs.declared.NameRead.the-variants as read
 
 -- the first and the second half of a surrogate pair
 abbrev pub high : ℕ → Bool
@@ -46,7 +44,3 @@ sized region f o =
 
 unfoldable pub nameAt : Region → ℕ → ℕ → Reading Name
 nameAt region f o = choose (eqb o 0) (got absent) (sized region f o)
-
--- what the code answers for a name
-abbrev pub nameRead : Outcome Name → NameRead
-nameRead o = answer read.Name read.Refused o

@@ -18,17 +18,11 @@ said (refused r) = r
 abbrev pub verdictTold : Verdict → Outcome (Unit {0})
 verdictTold r = elim r [ verdicts.Fine ↦ done tt | verdicts.Refused q ↦ refused q ]
 
-abbrev pub nameTold : declared.NameRead.NameRead → Outcome declared.Name.Name
-nameTold r = elim r [ declared.NameRead.the-variants.Name n ↦ done n | declared.NameRead.the-variants.Refused q ↦ refused q ]
-
 abbrev pub endTold : declared.EndRead.EndRead → Outcome ℕ
 endTold r = elim r [ declared.EndRead.the-variants.End e ↦ done e | declared.EndRead.the-variants.Refused q ↦ refused q ]
 
 abbrev pub headerTold : declared.HeaderRead.HeaderRead → Outcome declared.Header.Header
 headerTold r = elim r [ declared.HeaderRead.the-variants.Header h ↦ done h | declared.HeaderRead.the-variants.Refused q ↦ refused q ]
-
-abbrev pub definitionTold : declared.DefinitionRead.DefinitionRead → Outcome declared.Definition.Definition
-definitionTold r = elim r [ declared.DefinitionRead.the-variants.Definition d ↦ done d | declared.DefinitionRead.the-variants.Refused q ↦ refused q ]
 
 abbrev pub tempTold : declared.TemplateRead.TemplateRead → Outcome declared.Template.Template
 tempTold r = elim r [ declared.TemplateRead.the-variants.Template t ↦ done t | declared.TemplateRead.the-variants.Refused q ↦ refused q ]

@@ -24,12 +24,6 @@ pub struct Name {
     pub ended: bool,
 }
 
-// What reading a name finds. At offset 0 it is absent: start 0, no units.
-pub enum NameRead {
-    Name(Name),
-    Refused(Refusal),
-}
-
 // What reading a region's size finds: where the region ends.
 pub enum EndRead {
     End(usize),
@@ -58,12 +52,6 @@ pub struct Definition {
     pub name: Name,
     pub unknown: u32,
     pub mui: Guid,
-}
-
-// What reading a definition's record finds.
-pub enum DefinitionRead {
-    Definition(Definition),
-    Refused(Refusal),
 }
 
 // A record of EVNT: the fields of the original's EventDefinition, in order, keywords as low and high.

@@ -94,5 +94,20 @@ pub mod width {
     pub const UNKNOWN: usize = 4;
 }
 
+// No entry has more words.
+pub const WIDEST: usize = width::EVENTS;
+
+// The words of an entry of each list.
+pub const EACH: usize = width::PROVIDERS
+    + width::DESCRIPTORS
+    + width::UNKNOWN2
+    + width::TABLES
+    + width::DEFINITIONS
+    + width::EVENTS
+    + width::MAPS
+    + width::ENTRIES
+    + width::TEMPLATES
+    + width::UNKNOWN;
+
 // The most entries that a list can be lent.
 pub const MOST: u32 = 65536;

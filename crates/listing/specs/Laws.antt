@@ -12,6 +12,7 @@ use lib.Dec.{leb}
 use borrow.Author.Tests.{lt-ltb, le-ltb, leb-true, leb-false}
 use Rattle.io.specs.Digits as io
 use Rattle.blob.specs.Laid.{laid, laid-more, flat}
+use Rattle.format.specs.Area.{TEMPLATES, width}
 use Rattle.listing.specs.Rendered.{digits, decimal, line, rendered}
 use Rattle.listing.specs.Put.{Put, lineAt, linesFrom}
 
@@ -65,7 +66,7 @@ twenty n k h f = go (leb k 20) refl
 
 -- the line of the entry at a place, and those of the entries behind it
 pub lines-more : (words : List ℕ) (left at : ℕ) → 0 < left
-    → rendered (linesFrom words left at) ≡ line (lineAt words at) ++ rendered (linesFrom words (left - 1) (at + 12))
+    → rendered (linesFrom words left at) ≡ line (lineAt words at) ++ rendered (linesFrom words (left - 1) (at + width TEMPLATES))
 unfolding linesFrom flat
 lines-more words left at h =
     let e : left ≡ suc (left - 1) = omega arith in

@@ -14,8 +14,9 @@ use Rattle.blob.specs.Laid.{laid, length-laid, flat, flat-map, map-flat}
 use Rattle.blob.specs.Laws.{same, choose-done, then-done, length-flat}
 use Rattle.format.specs.Crim.{Crim}
 use Rattle.format.specs.Provider.{Provider}
-use Rattle.format.specs.Area.{TEMPLATES, rows, of}
-use Rattle.format.specs.Lists.{lists, ownedTables, templatesIn, templateWords}
+use Rattle.format.specs.Area.{PROVIDERS, EVENTS, TEMPLATES, Row, rows, place, width, of}
+use Rattle.format.specs.Entry.{TEMPLATE-OFFSET, TEMPLATE-SIZE, TEMPLATE-START, TEMPLATE-LENGTH}
+use Rattle.format.specs.Lists.{Entry, lists, ownedTables, templatesIn, templateWords}
 use Rattle.format.specs.Answer.{areas, lent-enough, reading, answer, filled, held}
 use Rattle.format.specs.Listing.{Piece, templateLine, lines, listing, sixty-four}
 use Rattle.format.specs.theorems.Codes.{refused-code}
@@ -24,7 +25,7 @@ use Rattle.format.specs.declared.Answer.{Answer}
 use Rattle.format.specs.declared.Template.{Template}
 use Rattle.areas.specs.Areas.{list-fits}
 use Rattle.listing.specs.Rendered.{characters, newline, line, rendered}
-use Rattle.listing.specs.Put.{Put, refusalLine, blockLine, linesFrom, acceptedText}
+use Rattle.listing.specs.Put.{Put, refusalLine, blockLine, linesFrom, lent, templates-at, acceptedText}
 
 -- words laid from a place on leave those before it, and are found behind it
 laid-before : (a : List ℕ) (p : ℕ) (ws : List ℕ) (i : ℕ) → i < p → getD (laid a p ws) i 0 ≡ getD a i 0
@@ -45,37 +46,53 @@ laid-found a p (w ∷ ws) (suc j) h g =
 templatesOf : List Provider → List Template
 templatesOf ps = flat (λ o. templatesIn (o .table .rows)) (ownedTables 0 ps)
 
-entries : (ps : List Provider) → getD (lists ps) 8 [] ≡ map templateWords (templatesOf ps)
+entries : (ps : List Provider) → getD (lists ps) (place TEMPLATES) [] ≡ map templateWords (templatesOf ps)
 unfolding lists templatesOf
 entries ps = sym (map-flat templateWords (λ o. templatesIn (o .table .rows)) (ownedTables 0 ps))
 
-words-of : (ps : List Provider) → flat (λ e. e) (getD (lists ps) 8 []) ≡ flat templateWords (templatesOf ps)
+words-of : (ps : List Provider) → flat (λ e. e) (getD (lists ps) (place TEMPLATES) []) ≡ flat templateWords (templatesOf ps)
 words-of ps = ap (flat (λ e. e)) (entries ps) ∙ flat-map (λ e. e) templateWords (templatesOf ps)
 
--- what is laid from 4,032 on, and no further than 4,800, is found there once more is laid from 4,800 on
-area : (a ws us vs : List ℕ) (j : ℕ) → ws ≡ vs → j < length vs → 4032 + length vs ≤ 4800 → 4032 + length vs ≤ length a
-    → getD (laid (laid a 4032 ws) 4800 us) (4032 + j) 0 ≡ getD vs j 0
-area a ws us vs j e h g k =
-    laid-before (laid a 4032 ws) 4800 us (4032 + j) (omega arith) ∙ ap (λ (l : List ℕ). getD (laid a 4032 l) (4032 + j) 0) e ∙ laid-found a 4032 vs j h k
+-- areas that are filled from a place on leave the words before it
+filled-before : (words : List ℕ) (at : ℕ) (rs : List Row) (cs : List ℕ) (ls : List (List Entry)) (i : ℕ) → i < at → getD (filled words at rs cs ls) i 0 ≡ getD words i 0
+unfolding filled
+filled-before words at [] cs ls i h = refl
+filled-before words at (r ∷ rs) [] ls i h = refl
+filled-before words at (r ∷ rs) (c ∷ cs) [] i h = refl
+filled-before words at (r ∷ rs) (c ∷ cs) (l ∷ ls) i h = filled-before _ (at + c * r .words) rs cs ls i (omega arith) ∙ laid-before words at (flat (λ e. e) l) i h
+
+-- a list that its area holds is found in it
+filled-found : (words : List ℕ) (at : ℕ) (rs : List Row) (cs : List ℕ) (ls : List (List Entry)) (i : ℕ) → i < length rs → i < length cs → at + areas rs cs ≤ length words
+    → length (flat (λ e. e) (getD ls i [])) ≤ getD cs i 0 * getD (map (λ r. r .words) rs) i 0
+    → (j : ℕ) → j < length (flat (λ e. e) (getD ls i [])) → getD (filled words at rs cs ls) (at + areas rs (take i cs) + j) 0 ≡ getD (flat (λ e. e) (getD ls i [])) j 0
+unfolding filled areas flat
+filled-found words at [] cs ls i h g w f j k = absurd (omega arith)
+filled-found words at (r ∷ rs) [] ls i h g w f j k = absurd (omega arith)
+filled-found words at (r ∷ rs) (c ∷ cs) [] i h g w f j k = absurd (omega arith)
+filled-found words at (r ∷ rs) (c ∷ cs) (l ∷ ls) zero h g w f j k =
+    rw (add-zero at) (filled-before _ (at + c * r .words) rs cs ls (at + j) (omega arith) ∙ laid-found words at (flat (λ e. e) l) j k (omega arith))
+filled-found words at (r ∷ rs) (c ∷ cs) (l ∷ ls) (suc i) h g w f j k =
+    let e : at + (c * r .words + areas rs (take i cs)) + j ≡ (at + c * r .words) + areas rs (take i cs) + j = omega arith in
+    rw e (filled-found _ (at + c * r .words) rs cs ls i (omega arith) (omega arith) (simp length-laid (omega arith)) f j k)
 
 -- list 9 stands in its area of the lent words
-found : (words : List ℕ) (ps : List Provider) → 5056 ≤ length words → length (templatesOf ps) ≤ 64
-    → (j : ℕ) → j < 12 * length (templatesOf ps) → getD (filled words 0 rows sixty-four (lists ps)) (4032 + j) 0 ≡ getD (flat templateWords (templatesOf ps)) j 0
-unfolding filled lists
+found : (words : List ℕ) (ps : List Provider) → lent ≤ length words → length (templatesOf ps) ≤ 64
+    → (j : ℕ) → j < width TEMPLATES * length (templatesOf ps) → getD (filled words 0 rows sixty-four (lists ps)) (templates-at + j) 0 ≡ getD (flat templateWords (templatesOf ps)) j 0
+unfolding areas
 found words ps w f j h =
-    let n : length (flat templateWords (templatesOf ps)) ≡ 12 * length (templatesOf ps) = length-flat templateWords 12 (λ t. refl) (templatesOf ps) in
-    area _ _ _ (flat templateWords (templatesOf ps)) j (words-of ps) (omega arith) (omega arith) (simp length-laid (omega arith))
+    let n : length (flat (λ e. e) (getD (lists ps) (place TEMPLATES) [])) ≡ width TEMPLATES * length (templatesOf ps) = ap length (words-of ps) ∙ length-flat templateWords (width TEMPLATES) (λ t. refl) (templatesOf ps) in
+    filled-found words 0 rows sixty-four (lists ps) (place TEMPLATES) (omega arith) (omega arith) (omega arith) (omega arith) j (omega arith) ∙ ap (λ (ws : List ℕ). getD ws j 0) (words-of ps)
 
 -- the lines of entries that stand in the words from a place on
-lines-of : (words : List ℕ) (ts : List Template) (at : ℕ) → ((j : ℕ) → j < 12 * length ts → getD words (at + j) 0 ≡ getD (flat templateWords ts) j 0)
+lines-of : (words : List ℕ) (ts : List Template) (at : ℕ) → ((j : ℕ) → j < width TEMPLATES * length ts → getD words (at + j) 0 ≡ getD (flat templateWords ts) j 0)
     → linesFrom words (length ts) at ≡ map templateLine (map templateWords ts)
 unfolding linesFrom flat
 lines-of words [] at h = refl
 lines-of words (t ∷ ts) at h =
     ap₂ (λ (l : List Piece) (ls : List (List Piece)). l ∷ ls)
-    (rw (h 0 (omega arith), h 1 (omega arith), h 10 (omega arith), h 11 (omega arith)) refl)
-    (lines-of words ts (at + 12) (λ j g.
-    ap (λ i. getD words i 0) (omega arith) ∙ h (12 + j) (omega arith) ∙ getD-append-add (templateWords t) (flat templateWords ts) j 0))
+    (rw (h TEMPLATE-OFFSET (omega arith), h TEMPLATE-SIZE (omega arith), h TEMPLATE-START (omega arith), h TEMPLATE-LENGTH (omega arith)) refl)
+    (lines-of words ts (at + width TEMPLATES) (λ j g.
+    ap (λ i. getD words i 0) (omega arith) ∙ h (width TEMPLATES + j) (omega arith) ∙ getD-append-add (templateWords t) (flat templateWords ts) j 0))
 
 -- what is told of an accepted block, and that there is room for it
 pub record Told-of (words : List ℕ) (o : Outcome Crim) : Type 0 where
@@ -83,25 +100,25 @@ pub record Told-of (words : List ℕ) (o : Outcome Crim) : Type 0 where
   pub few : of TEMPLATES (answer o .counts) ≤ 64
 
 module _ (bytes words : List ℕ) where
-  few-of : (c : Crim) → reading bytes words sixty-four ≡ done c → length (getD (lists (c .providers)) 8 []) ≤ 64
+  few-of : (c : Crim) → reading bytes words sixty-four ≡ done c → length (getD (lists (c .providers)) (place TEMPLATES) []) ≤ 64
   unfolding reading
   few-of c e =
       let o = choose-done (leb (length bytes) 16777216) _ _ c e .1 in
       let h = then-done _ _ c (choose-done (lent-enough sixty-four words) _ _ c o .1) in
       let k = same (h .0) c (sym (h .1) ∙ reading-crim bytes words sixty-four c e) in
-      rw k at (list-fits rows sixty-four (lists (h .0 .providers)) (h .0) c (h .2) 8 (omega arith) (omega arith))
+      rw k at (list-fits rows sixty-four (lists (h .0 .providers)) (h .0) c (h .2) (place TEMPLATES) (omega arith) (omega arith))
 
-  pub accepted : (o : Outcome Crim) → reading bytes words sixty-four ≡ o → 5056 ≤ length words → answer o .code ≡ 0 → Told-of words o
+  pub accepted : (o : Outcome Crim) → reading bytes words sixty-four ≡ o → lent ≤ length words → answer o .code ≡ 0 → Told-of words o
   unfolding answer held flat lists
   accepted (done c) e w z =
       let ps = c .providers in
       let f = few-of c e in
-      let n : length (getD (lists ps) 8 []) ≡ length (templatesOf ps) = ap length (entries ps) ∙ simp length-map in
-      let there = lines-of (filled words 0 rows sixty-four (lists ps)) (templatesOf ps) 4032 (found words ps w (omega (arith, f, n))) in
-      let block = line (blockLine (c .header .size) (length (getD (lists ps) 0 [])) (length (getD (lists ps) 5 [])) (length (getD (lists ps) 8 []))) in
+      let n : length (getD (lists ps) (place TEMPLATES) []) ≡ length (templatesOf ps) = ap length (entries ps) ∙ simp length-map in
+      let there = lines-of (filled words 0 rows sixty-four (lists ps)) (templatesOf ps) templates-at (found words ps w (omega (arith, f, n))) in
+      let block = line (blockLine (c .header .size) (length (getD (lists ps) (place PROVIDERS) [])) (length (getD (lists ps) (place EVENTS) [])) (length (getD (lists ps) (place TEMPLATES) []))) in
       record {
         text = ap (λ (ls : List (List Piece)). block ++ rendered ls)
-            (ap (map templateLine) (entries ps) ∙ sym there ∙ ap (λ i. linesFrom (filled words 0 rows sixty-four (lists ps)) i 4032) (sym n));
+            (ap (map templateLine) (entries ps) ∙ sym there ∙ ap (λ i. linesFrom (filled words 0 rows sixty-four (lists ps)) i templates-at) (sym n));
         few = f;
       }
   accepted (refused r) e w z = absurd (let h = refused-code bytes words sixty-four r e in omega (arith, h, z))
@@ -119,7 +136,7 @@ too-long bytes h = rw (lt-leb (length bytes) 65536 h) refl
 -- the listing of bytes that are not, by the answer and the words of their reading
 module _ (bytes : List ℕ) (h : length bytes ≤ 65536) (a : Answer) where
   abbrev found-in : Outcome Crim
-  found-in = reading bytes (replicate 5056 0) sixty-four
+  found-in = reading bytes (replicate lent 0) sixty-four
 
   listed : listing bytes ≡ lines found-in
   unfolding listing areas
@@ -129,10 +146,10 @@ module _ (bytes : List ℕ) (h : length bytes ≤ 65536) (a : Answer) where
     pub listed-refused : (a .code ≡ 0 → ⊥) → line (refusalLine (a .code) (a .place)) ≡ rendered (listing bytes)
     listed-refused z = ap (λ b. line (refusalLine (b .code) (b .place))) e ∙ refused-line found-in (rw e at z) ∙ ap rendered (sym listed)
 
-    pub listed-accepted : (words : List ℕ) → words ≡ held (replicate 5056 0) sixty-four found-in → a .code ≡ 0
+    pub listed-accepted : (words : List ℕ) → words ≡ held (replicate lent 0) sixty-four found-in → a .code ≡ 0
         → (of TEMPLATES (a .counts) ≤ 64) × (acceptedText a words ≡ rendered (listing bytes))
     listed-accepted words g z =
-        let t = accepted bytes (replicate 5056 0) found-in refl (omega arith) (rw e at z) in
+        let t = accepted bytes (replicate lent 0) found-in refl (omega arith) (rw e at z) in
         (rw e (t .few), rw (e, g) (sym (t .text)) ∙ ap rendered (sym listed))
 
 -- The program reads no more than 65,537 bytes: what is behind them changes nothing.

@@ -1,10 +1,10 @@
 -- What the functions that render a listing do to the bytes that are lent them.
-use Prim.Native.Nat.{ℕ, zero, suc, _+_}
+use Prim.Native.Nat.{ℕ, zero, suc, _+_, _*_}
 use mathlib.Core.Path.{_≡_}
 use mathlib.Core.List.{List, [], _∷_, _++_}
-use lib.ListN.{length, getD}
+use lib.ListN.{length, getD, take}
 use Rattle.blob.specs.Laid.{laid}
-use Rattle.format.specs.Area.{PROVIDERS, EVENTS, TEMPLATES, of}
+use Rattle.format.specs.Area.{Row, rows, PROVIDERS, EVENTS, TEMPLATES, place, width, of}
 use Rattle.format.specs.Entry.{TEMPLATE-OFFSET, TEMPLATE-SIZE, TEMPLATE-START, TEMPLATE-LENGTH}
 use Rattle.format.specs.Listing.{Piece, says, number}
 use Rattle.listing.specs.Rendered.{decimal, newline, line, rendered}
@@ -35,9 +35,20 @@ lineAt words at =
 
 unfoldable pub linesFrom : List ℕ → ℕ → ℕ → List (List Piece)
 linesFrom words zero at = []
-linesFrom words (suc n) at = lineAt words at ∷ linesFrom words n (at + 12)
+linesFrom words (suc n) at = lineAt words at ∷ linesFrom words n (at + width TEMPLATES)
+
+-- the words of 64 entries of each of some lists; all that are lent, and where those of the templates start
+abbrev pub sixty-four-of : List Row → ℕ
+sixty-four-of [] = 0
+sixty-four-of (r ∷ rs) = 64 * r .words + sixty-four-of rs
+
+abbrev pub lent : ℕ
+lent = sixty-four-of rows
+
+abbrev pub templates-at : ℕ
+templates-at = sixty-four-of (take (place TEMPLATES) rows)
 
 -- all lines of an accepted block, by its answer and the words that it was read into
 abbrev pub acceptedText : Answer → List ℕ → List ℕ
 acceptedText a words =
-    line (blockLine (a .first) (of PROVIDERS (a .counts)) (of EVENTS (a .counts)) (of TEMPLATES (a .counts))) ++ rendered (linesFrom words (of TEMPLATES (a .counts)) 4032)
+    line (blockLine (a .first) (of PROVIDERS (a .counts)) (of EVENTS (a .counts)) (of TEMPLATES (a .counts))) ++ rendered (linesFrom words (of TEMPLATES (a .counts)) templates-at)

@@ -4,27 +4,29 @@ ghost use mathlib.Core.List.{_++_};
 ghost use Prim.Native.Nat.{_+_, _*_, _≤_};
 ghost use lib.ListN.{length};
 ghost use Rattle.format.specs.Answer as spec;
-ghost use Rattle.format.specs.Area.{PROVIDERS, EVENTS, TEMPLATES, of};
+ghost use Rattle.format.specs.Area.{PROVIDERS, EVENTS, TEMPLATES, width, of};
 ghost use Rattle.format.specs.Listing.{listing, sixty-four as capacities};
 ghost use Rattle.listing.specs.Rendered.{decimal, rendered, line as lineBytes};
-ghost use Rattle.listing.specs.Put.{Put, fourfold, refusalLine, blockLine, lineAt, linesFrom, acceptedText};
+ghost use Rattle.listing.specs.Put.{Put, fourfold, refusalLine, blockLine, lineAt, templates-at, linesFrom, acceptedText, lent};
 use format::Answer;
 use format::entry::TEMPLATE_LENGTH;
 use format::entry::TEMPLATE_OFFSET;
 use format::entry::TEMPLATE_SIZE;
 use format::entry::TEMPLATE_START;
 use format::list::AREAS;
+use format::list::EACH;
 use format::list::row;
+use format::list::width;
 use libc::STDIN_FILENO;
 use libc::STDOUT_FILENO;
 
 // The most bytes that are listed.
 const MOST: usize = 65536;
 
-// The words that ten areas of 64 entries take, and where list 9, the templates, starts among them.
-const WORDS: usize = 5056;
+// The entries of each list, and the words that their areas take.
+const CAPACITY: u32 = 64;
 
-const TEMPLATES_AT: usize = 4032;
+const WORDS: usize = 64 * EACH;
 
 // Room for the longest listing there can be: a line of at most 116 bytes, and 64 of at most 105.
 const ROOM: usize = 8192;
@@ -127,7 +129,7 @@ fn put_block(size: u64, counts: [u32; AREAS], out: &mut [u8]) -> usize
 
 // The same of the template entry that stands at a place of the words.
 fn put_template(words: &[u32], from: usize, out: &mut [u8], at: usize) -> usize
-    requires { ⌜ from + 12 ≤ length (now words) ⌝ }
+    requires { ⌜ from + width TEMPLATES ≤ length (now words) ⌝ }
     requires { ⌜ at + 105 ≤ length (now out) ⌝ }
     ensures { λ r. ⌜ Put (now (out .entry)) at (lineBytes (lineAt (now (words .entry)) from)) r (now (out .exit)) ⌝ }
     ensures { λ r. ⌜ r ≤ at + 105 ⌝ }
@@ -148,17 +150,17 @@ fn put_template(words: &[u32], from: usize, out: &mut [u8], at: usize) -> usize
 
 // The same of n template entries, one behind the other.
 fn put_templates(words: &[u32], n: u32, out: &mut [u8], at: usize) -> usize
-    requires { ⌜ 4032 + 12 * n ≤ length (now words) ⌝ }
+    requires { ⌜ templates-at + width TEMPLATES * n ≤ length (now words) ⌝ }
     requires { ⌜ at + 105 * n ≤ length (now out) ⌝ }
-    ensures { λ r. ⌜ Put (now (out .entry)) at (rendered (linesFrom (now (words .entry)) n 4032)) r (now (out .exit)) ⌝ }
+    ensures { λ r. ⌜ Put (now (out .entry)) at (rendered (linesFrom (now (words .entry)) n templates-at)) r (now (out .exit)) ⌝ }
     ensures { λ r. ⌜ r ≤ at + 105 * n ⌝ }
 {
-    let mut from = TEMPLATES_AT;
+    let mut from = counts::area_at([CAPACITY; AREAS], row::TEMPLATES);
     let mut left = n;
     let mut to = at;
     while 0 < left {
         to = put_template(words, from, out, to);
-        from += 12;
+        from += width::TEMPLATES;
         left -= 1;
     }
     to
@@ -166,7 +168,7 @@ fn put_templates(words: &[u32], n: u32, out: &mut [u8], at: usize) -> usize
 
 // The same of all lines of an accepted block, by its answer and the words that it was read into.
 fn put_accepted(a: Answer, words: &[u32], out: &mut [u8]) -> usize
-    requires { ⌜ (of TEMPLATES (a .counts) ≤ 64) × (5056 ≤ length (now words)) × (8192 ≤ length (now out)) ⌝ }
+    requires { ⌜ (of TEMPLATES (a .counts) ≤ 64) × (lent ≤ length (now words)) × (8192 ≤ length (now out)) ⌝ }
     ensures { λ r. ⌜ Put (now (out .entry)) 0 (acceptedText a (now (words .entry))) r (now (out .exit)) ⌝ }
     ensures { λ r. ⌜ r ≤ 8192 ⌝ }
 {
@@ -179,7 +181,7 @@ fn put_accepted(a: Answer, words: &[u32], out: &mut [u8]) -> usize
 fn read(bytes: &[u8], words: &mut [u32]) -> Answer
     ensures { λ r. ⌜ spec.Allowed (now (bytes .entry)) (now (words .entry)) capacities r (now (words .exit)) ⌝ }
 {
-    manifest::read(bytes, words, [64; AREAS])
+    manifest::read(bytes, words, [CAPACITY; AREAS])
 }
 
 // Puts the listing of some bytes; hands back where it ends. What the program promises is promised here: `main` only reads and writes.

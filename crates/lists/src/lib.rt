@@ -21,6 +21,7 @@ use format::entry::TEMPLATE_OFFSET;
 use format::kind;
 use format::list::AREAS;
 use format::list::row;
+use format::list::width;
 
 // The number of an entry that was looked for, if there is one.
 pub enum Found {
@@ -53,7 +54,7 @@ pub fn same(words: &[u32], at: usize, key: &[u32]) -> bool
 
 // Where an entry stands, by its number, in a list that starts at a place.
 pub fn entry_at(start: usize, row: usize, number: u32) -> usize
-    requires { ⌜ (row < 10) × (start + getD widths row 0 * number < 18446744073709551616) ⌝ }
+    requires { ⌜ (row < area.AREAS) × (start + getD widths row 0 * number < 18446744073709551616) ⌝ }
     ensures { λ r. ⌜ r ≡ start + getD widths row 0 * number ⌝ }
 {
     start + counts::words_of(number, row)
@@ -61,11 +62,11 @@ pub fn entry_at(start: usize, row: usize, number: u32) -> usize
 
 // The lowest of some entries of a row's list that has some words from its word `from` on.
 pub fn find(words: &[u32], run: Run, row: usize, from: usize, key: &[u32]) -> Found
-    requires { ⌜ (row < 10) × (from + length (now key) ≤ getD widths row 0) ⌝ }
+    requires { ⌜ (row < area.AREAS) × (from + length (now key) ≤ getD widths row 0) ⌝ }
     requires { ⌜ spec.few (getD widths row 0) run (now words) ⌝ }
     ensures { λ r. ⌜ r ≡ spec.found (right.position (spec.has from (now (key .entry))) (run .first) (spec.entries (getD widths row 0) run (now (words .entry)))) ⌝ }
 {
-    let width = counts::width_of(row) as usize;
+    let width = counts::width_of(row);
     let mut at = entry_at(run.start, row, run.first);
     let mut left = run.count;
     let mut number = run.first;
@@ -116,7 +117,7 @@ pub fn fit(words: &[u32], capacities: [u32; AREAS], counts: [u32; AREAS]) -> Ver
 
 // A whole list, by its row.
 pub fn run_of(capacities: [u32; AREAS], counts: [u32; AREAS], row: usize) -> Run
-    requires { ⌜ row < 10 ⌝ }
+    requires { ⌜ row < area.AREAS ⌝ }
     ensures { λ r. ⌜ r ≡ spec.runOf capacities counts row ⌝ }
 {
     let start = counts::area_at(capacities, row);
@@ -171,14 +172,13 @@ fn tables_fit(words: &[u32], capacities: [u32; AREAS], counts: [u32; AREAS]) -> 
     requires { ⌜ spec.Fit (now words) capacities counts ⌝ }
     ensures { λ r. ⌜ r ≡ right.tablesFit counts (right.entriesOf (now (words .entry)) capacities counts area.TABLES) ⌝ }
 {
-    let width = counts::width_of(row::TABLES) as usize;
     let mut at = counts::area_at(capacities, row::TABLES);
     let mut left = counts[row::TABLES];
     while 0 < left {
         if !table_fits(words, at, counts) {
             return false;
         }
-        at += width;
+        at += width::TABLES;
         left -= 1;
     }
     true

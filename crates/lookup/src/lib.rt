@@ -22,6 +22,7 @@ use format::kind;
 use format::list::AREAS;
 use format::list::MOST;
 use format::list::row;
+use format::list::width;
 use lists::Found;
 use lists::Run;
 
@@ -114,14 +115,13 @@ fn mark(words: &[u32], list: Run, guid: &[u32], marks: &mut [bool; 65536])
     requires { ⌜ spec.Listed list (now words) × (length (now guid) ≡ entry.GUID) ⌝ }
     ensures { λ _. ⌜ now (marks .exit) ≡ spec.marked (now (words .entry)) list (now (guid .entry)) (now (marks .entry)) ⌝ }
 {
-    let width = counts::width_of(row::TEMPLATES) as usize;
     let mut at = list.start;
     let mut left = list.count;
     let mut i: usize = 0;
     while 0 < left {
         let given = lists::same(words, at + TEMPLATE_GUID, guid);
         marks[i] = either(given, marks[i]);
-        at += width;
+        at += width::TEMPLATES;
         left -= 1;
         i += 1;
     }

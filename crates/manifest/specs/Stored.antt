@@ -11,7 +11,7 @@ use Rattle.blob.specs.Reading.{done, refused, run, verdict}
 use Rattle.blob.specs.Laws.{fine-done}
 use Rattle.format.specs.Provider.{Provider}
 use Rattle.format.specs.Lists.{lists}
-use Rattle.format.specs.Area.{rows, none}
+use Rattle.format.specs.Area.{rows, AREAS, none}
 use Rattle.format.specs.Answer.{moderate, with-room, counted, capped}
 use Rattle.format.specs.steps.Needs.{needsAll}
 use Rattle.format.specs.theorems.Needed.{needed}
@@ -27,7 +27,7 @@ few-capped [] f i = omega arith
 few-capped (n ∷ ns) f zero = omega (arith, f 0)
 few-capped (n ∷ ns) f (suc i) = few-capped ns (λ j. f (suc j)) i
 
-module _ (h : CrimHeader) (s : List ℕ) (c needs : List ℕ) (c10 : length c ≡ 10) (g : 16 + 20 * h .count ≤ length s) (v : verdict (run (providers (h .count)) s) ≡ verdicts.Fine)
+module _ (h : CrimHeader) (s : List ℕ) (c needs : List ℕ) (c-rows : length c ≡ AREAS) (g : 16 + 20 * h .count ≤ length s) (v : verdict (run (providers (h .count)) s) ≡ verdicts.Fine)
     (e : needs ≡ needsAll none (providersIn (h .count) s)) (m : moderate c ≡ true) where
   abbrev ps : List Provider
   ps = providersIn (h .count) s
@@ -52,4 +52,4 @@ module _ (h : CrimHeader) (s : List ℕ) (c needs : List ℕ) (c10 : length c �
     store-done = read ∙ ap (by-verdict (record { header = h; providers = ps })) (sym q)
 
     pub store-counted : needs ≡ counted (lists ps)
-    store-counted = e ∙ needed ps ∙ few-uncapped (counted (lists ps)) (few-capped (counted (lists ps)) (few c c10 ps m store-roomy))
+    store-counted = e ∙ needed ps ∙ few-uncapped (counted (lists ps)) (few-capped (counted (lists ps)) (few c c-rows ps m store-roomy))

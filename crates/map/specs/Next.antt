@@ -9,6 +9,7 @@ use Rattle.blob.specs.declared.Verdict.the-variants as verdicts
 use Rattle.blob.specs.Laid.{laid, flat}
 use Rattle.blob.specs.Reading.{Outcome, done, refused, run, many, verdict, values}
 use Rattle.blob.specs.Laws.{not-fine, many-more, many-stop, many-length, values-more, values-none, fill-more, told-more, length-flat}
+use Rattle.format.specs.Area.{MAPS, ENTRIES, width}
 use Rattle.format.specs.Definition.{step}
 use Rattle.format.specs.Map.{Mapped, entryAt, mapRead}
 use Rattle.format.specs.Answer.{capped}
@@ -104,16 +105,16 @@ module _ (e start first : ℕ) (s : List ℕ) (left place : ℕ) (h : 0 < left) 
 
       pub next-maps : (n : ℕ) (area area' : List ℕ) (to : ℕ) → area' ≡ laid area to (mapWords n x)
           → laid area to (mapsWords n (values (unread e start first s left place)))
-          ≡ laid area' (to + 11) (mapsWords (n + x .count) (values (unread e start first s (left - 1) (place + 4))))
+          ≡ laid area' (to + width MAPS) (mapsWords (n + x .count) (values (unread e start first s (left - 1) (place + 4))))
       next-maps n area area' to q =
           fill-more (listedAt e start first) (step 4) (mapsWords n) (mapsWords (n + x .count)) (mapWords n x) s area area' left place to m
           (one-map n x m same-map (told-count s m told)) q h found v
 
       pub next-entries : (area area' : List ℕ) (to : ℕ) → area' ≡ laid area to (flat mapEntryWords (values (run (entries (x .count) (x .offset + 16)) s)))
           → laid area to (entriesWords (values (unread e start first s left place)))
-          ≡ laid area' (to + 2 * x .count) (entriesWords (values (unread e start first s (left - 1) (place + 4))))
+          ≡ laid area' (to + width ENTRIES * x .count) (entriesWords (values (unread e start first s (left - 1) (place + 4))))
       unfolding flat
       next-entries area area' to q =
           fill-more (listedAt e start first) (step 4) entriesWords entriesWords (flat mapEntryWords (m .entries)) s area area' left place to m
           (λ ms. refl) (q ∙ rw (← its-entries)) h found v
-          ∙ rw (length-flat mapEntryWords 2 (λ w. refl) (m .entries), its-count)
+          ∙ rw (length-flat mapEntryWords (width ENTRIES) (λ w. refl) (m .entries), its-count)

@@ -5,6 +5,7 @@ ghost use lib.Dec.{eqb};
 ghost use lib.ListN.{length};
 ghost use Rattle.blob.specs.Laid.{laid, flat};
 ghost use Rattle.blob.specs.Reading.{run, verdict, values, choose};
+ghost use Rattle.format.specs.Area.{MAPS, ENTRIES, width};
 ghost use Rattle.format.specs.Field.{VMAP-map-string};
 ghost use Rattle.format.specs.Region.{blob-end, until};
 ghost use Rattle.format.specs.Map.{valueMapAt, otherMap, mapAt, mapsAt, mapRead};
@@ -31,6 +32,7 @@ use format::field::VMAP_HEADER;
 use format::field::VMAP_MAP_STRING;
 use format::field::VMAP_SIZE;
 use format::field::VMAP_SIZE_FIELD;
+use format::list::width;
 use format::signature::BMAP;
 use format::signature::VMAP;
 use name::absent;
@@ -207,7 +209,7 @@ pub fn check(b: &[u8], at: usize, h: Header) -> EntriesRead
 
 // Stores a map's words from a place of the area on; so many entries were stored before its own.
 fn put_map(area: &mut [u32], to: usize, before: u32, m: Map)
-    requires { ⌜ to + 11 ≤ length (now area) ⌝ }
+    requires { ⌜ to + width MAPS ≤ length (now area) ⌝ }
     ensures { λ _. ⌜ now (area .exit) ≡ laid (now (area .entry)) to (mapWords before m) ⌝ }
 {
     let first = pick(m.kind, 1, before, 0);
@@ -231,7 +233,7 @@ fn put_map(area: &mut [u32], to: usize, before: u32, m: Map)
 fn put_maps(b: &[u8], end: usize, start: usize, n: u32, before: u32, area: &mut [u32]) -> u32
     requires { ⌜ (end ≤ length (now b)) × (start + 4 * n ≤ length (now b)) × (length (now b) ≤ 16777216) ⌝ }
     requires { ⌜ verdict (run (listed end start n) (now b)) ≡ Verdict.Fine ⌝ }
-    requires { ⌜ 11 * n ≤ length (now area) ⌝ }
+    requires { ⌜ width MAPS * n ≤ length (now area) ⌝ }
     requires { ⌜ before + entryCount (values (run (listed end start n) (now b))) ≤ 65536 ⌝ }
     ensures { λ r. ⌜ r ≡ before + entryCount (values (run (listed end start n) (now (b .entry)))) ⌝ }
     ensures { λ _. ⌜ now (area .exit) ≡ laid (now (area .entry)) 0 (flat (λ e. e) (mapList before (values (run (listed end start n) (now (b .entry)))))) ⌝ }
@@ -249,7 +251,7 @@ fn put_maps(b: &[u8], end: usize, start: usize, n: u32, before: u32, area: &mut 
         entries += m.count;
         place += 4;
         left -= 1;
-        to += 11;
+        to += width::MAPS;
     }
     entries
 }
@@ -259,7 +261,7 @@ fn put_maps(b: &[u8], end: usize, start: usize, n: u32, before: u32, area: &mut 
 pub fn fill_maps(b: &[u8], at: usize, h: Header, before: u32, area: &mut [u32]) -> u32
     requires { ⌜ (at + 16 ≤ length (now b)) × (length (now b) ≤ 16777216) ⌝ }
     requires { ⌜ verdict (run (mapsAt at h) (now b)) ≡ Verdict.Fine ⌝ }
-    requires { ⌜ 11 * h .count ≤ length (now area) ⌝ }
+    requires { ⌜ width MAPS * h .count ≤ length (now area) ⌝ }
     requires { ⌜ before + entryCount (values (run (mapsAt at h) (now b))) ≤ 65536 ⌝ }
     ensures { λ r. ⌜ r ≡ before + entryCount (values (run (mapsAt at h) (now (b .entry)))) ⌝ }
     ensures { λ _. ⌜ now (area .exit) ≡ laid (now (area .entry)) 0 (flat (λ e. e) (mapList before (values (run (mapsAt at h) (now (b .entry)))))) ⌝ }
@@ -272,7 +274,7 @@ pub fn fill_maps(b: &[u8], at: usize, h: Header, before: u32, area: &mut [u32]) 
 
 // Stores the words of the entry at a place.
 fn put_entry(b: &[u8], at: usize, area: &mut [u32], to: usize)
-    requires { ⌜ (at + 8 ≤ length (now b)) × (to + 2 ≤ length (now area)) ⌝ }
+    requires { ⌜ (at + 8 ≤ length (now b)) × (to + width ENTRIES ≤ length (now area)) ⌝ }
     ensures { λ _. ⌜ now (area .exit) ≡ laid (now (area .entry)) to (mapEntryWords (entry (now (b .entry)) at)) ⌝ }
 {
     let entry = [blob::word(b, at), blob::word(b, at + 4)];
@@ -281,7 +283,7 @@ fn put_entry(b: &[u8], at: usize, area: &mut [u32], to: usize)
 
 // Stores the words of so many entries from a place on.
 fn put_entries(b: &[u8], start: usize, n: u32, area: &mut [u32], from: usize)
-    requires { ⌜ (8 * n ≤ length (now b) - start) × (from + 2 * n ≤ length (now area)) ⌝ }
+    requires { ⌜ (8 * n ≤ length (now b) - start) × (from + width ENTRIES * n ≤ length (now area)) ⌝ }
     ensures { λ _. ⌜ now (area .exit) ≡ laid (now (area .entry)) from (flat mapEntryWords (values (run (entries n start) (now (b .entry))))) ⌝ }
 {
     let mut at = start;
@@ -291,7 +293,7 @@ fn put_entries(b: &[u8], start: usize, n: u32, area: &mut [u32], from: usize)
         put_entry(b, at, area, to);
         at += 8;
         left -= 1;
-        to += 2;
+        to += width::ENTRIES;
     }
 }
 
@@ -299,8 +301,8 @@ fn put_entries(b: &[u8], start: usize, n: u32, area: &mut [u32], from: usize)
 fn put_map_entries(b: &[u8], end: usize, start: usize, n: u32, area: &mut [u32]) -> usize
     requires { ⌜ (end ≤ length (now b)) × (start + 4 * n ≤ length (now b)) × (length (now b) ≤ 16777216) ⌝ }
     requires { ⌜ verdict (run (listed end start n) (now b)) ≡ Verdict.Fine ⌝ }
-    requires { ⌜ 2 * entryCount (values (run (listed end start n) (now b))) ≤ length (now area) ⌝ }
-    ensures { λ r. ⌜ r ≡ 2 * entryCount (values (run (listed end start n) (now (b .entry)))) ⌝ }
+    requires { ⌜ width ENTRIES * entryCount (values (run (listed end start n) (now b))) ≤ length (now area) ⌝ }
+    ensures { λ r. ⌜ r ≡ width ENTRIES * entryCount (values (run (listed end start n) (now (b .entry)))) ⌝ }
     ensures { λ _. ⌜ now (area .exit) ≡ laid (now (area .entry)) 0 (flat (λ m. flat mapEntryWords (m .entries)) (values (run (listed end start n) (now (b .entry))))) ⌝ }
 {
     let first = start + 4 * (n as usize);
@@ -312,7 +314,7 @@ fn put_map_entries(b: &[u8], end: usize, start: usize, n: u32, area: &mut [u32])
             return 0;
         };
         put_entries(b, m.offset as usize + 16, m.count, area, to);
-        to += 2 * (m.count as usize);
+        to += width::ENTRIES * (m.count as usize);
         place += 4;
         left -= 1;
     }
@@ -323,8 +325,8 @@ fn put_map_entries(b: &[u8], end: usize, start: usize, n: u32, area: &mut [u32])
 pub fn fill_entries(b: &[u8], at: usize, h: Header, area: &mut [u32]) -> usize
     requires { ⌜ (at + 16 ≤ length (now b)) × (length (now b) ≤ 16777216) ⌝ }
     requires { ⌜ verdict (run (mapsAt at h) (now b)) ≡ Verdict.Fine ⌝ }
-    requires { ⌜ 2 * entryCount (values (run (mapsAt at h) (now b))) ≤ length (now area) ⌝ }
-    ensures { λ r. ⌜ r ≡ 2 * entryCount (values (run (mapsAt at h) (now (b .entry)))) ⌝ }
+    requires { ⌜ width ENTRIES * entryCount (values (run (mapsAt at h) (now b))) ≤ length (now area) ⌝ }
+    ensures { λ r. ⌜ r ≡ width ENTRIES * entryCount (values (run (mapsAt at h) (now (b .entry)))) ⌝ }
     ensures { λ _. ⌜ now (area .exit) ≡ laid (now (area .entry)) 0 (flat (λ m. flat mapEntryWords (m .entries)) (values (run (mapsAt at h) (now (b .entry))))) ⌝ }
 {
     let EndRead::End(end) = bounds::region_end(b, MAPS_SIZE, at, h.size, 16) else {

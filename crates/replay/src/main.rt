@@ -1,19 +1,31 @@
 // Replays stored answers: each blob of the data is read again, and its answer and every lent word is held to what its record tells.
 // The data is a row of records, 32-bit little-endian numbers throughout: the blob's length, its bytes (zeros behind them up to a multiple
-// of four), code, field, place, first (low, high), second (low, high), the ten counts, and all words of lists 1 to 10.
+// of four), code, field, place, first (low, high), second (low, high), a count for each list, and all words of the lists.
 // Blobs, numbers of an answer and lent words are counted from 0.
 ghost use mathlib.Core.Path.{_≡_};
-ghost use Prim.Native.Nat.{_+_, _*_, _≤_};
+ghost use Prim.Native.Nat.{_+_, _*_, _≤_, _<_};
 ghost use lib.ListN.{length};
+ghost use Rattle.format.specs.Area.{AREAS, WIDEST};
 ghost use Rattle.replay.specs.Off.{off};
+use format::list::AREAS;
+use format::list::WIDEST;
 use libc::STDIN_FILENO;
 use libc::STDOUT_FILENO;
 
 // The capacity of each list.
 const CAPACITY: u32 = 64;
 
-// The lent words: ten areas of at most 16 words an entry. What is behind the areas must be kept as well.
-const WORDS: usize = 10240;
+// The most words that a list has with that; and the lent words, as many for each list. What is behind the areas must be kept as well.
+const LONGEST: usize = 64 * WIDEST;
+
+const WORDS: usize = AREAS * LONGEST;
+
+const BYTES: usize = 4 * LONGEST;
+
+// The numbers of an answer, and the words of a record that tell them: code, field, place, first, second, and the counts.
+const NUMBERS: usize = 5 + AREAS;
+
+const TOLD: usize = 7 + AREAS;
 
 // What the lent words hold before a blob is read.
 const KEPT: u32 = 0xA5C3_5A3C;
@@ -29,69 +41,55 @@ fn put(bytes: &[u8], to: &mut [u32])
     }
 }
 
+// Room for the bytes of so many words.
+fn buffer() -> [u8; BYTES]
+    ensures { λ r. ⌜ length r ≡ 4 * (64 * WIDEST) ⌝ }
+{
+    [0; BYTES]
+}
+
 // Reads as many words as are lent; answers how many bytes of them there were.
 fn fetch(to: &mut [u32]) -> usize
-    requires { ⌜ length (now to) ≤ 1024 ⌝ }
+    requires { ⌜ length (now to) ≤ 64 * WIDEST ⌝ }
 {
-    let mut buffer = io::buffer();
+    let mut buffer = buffer();
     let n = 4 * to.len();
     let got = io::read_full(STDIN_FILENO, &mut buffer[..n]);
     put(&buffer, to);
     got
 }
 
-// The words of an entry of each list, counted from 0.
-fn width(list: usize) -> usize
-    ensures { λ r. ⌜ r ≤ 16 ⌝ }
+// The words of so many entries of the list of a row.
+fn size(n: u32, row: usize) -> usize
+    requires { ⌜ (n ≤ 64) × (row < AREAS) ⌝ }
+    ensures { λ r. ⌜ r ≤ 64 * WIDEST ⌝ }
 {
-    match list {
-        0 => 9,
-        1 => 3,
-        2 => 1,
-        3 => 9,
-        4 => 12,
-        5 => 16,
-        6 => 11,
-        7 => 2,
-        8 => 12,
-        _ => 4,
-    }
+    (n as usize) * counts::width_of(row)
 }
 
-// The words of so many entries.
-fn size(n: u32, width: usize) -> usize
-    requires { ⌜ n ≤ 64 ⌝ }
-    requires { ⌜ width ≤ 16 ⌝ }
-    ensures { λ r. ⌜ r ≤ 1024 ⌝ }
-{
-    (n as usize) * width
-}
-
-// Lays a list's words, n entries of w words each, into its area. False if the data ends before, or the area is too small.
-fn fetch_list(words: &mut [u32], from: usize, n: u32, w: usize) -> bool
-    requires { ⌜ from + 1024 ≤ length (now words) ⌝ }
-    requires { ⌜ w ≤ 16 ⌝ }
+// Lays the words of n entries of the list of a row into its area. False if the data ends before, or the area is too small.
+fn fetch_list(words: &mut [u32], from: usize, n: u32, row: usize) -> bool
+    requires { ⌜ (from + 64 * WIDEST ≤ length (now words)) × (row < AREAS) ⌝ }
 {
     if CAPACITY < n {
         return false;
     }
-    let end = from + size(n, w);
+    let end = from + size(n, row);
     fetch(&mut words[from..end]) == 4 * (end - from)
 }
 
-// Lays all ten lists of a record.
-fn fetch_lists(told: &[u32; 17], words: &mut [u32]) -> bool
-    requires { ⌜ 10240 ≤ length (now words) ⌝ }
+// Lays all lists of a record.
+fn fetch_lists(told: &[u32; TOLD], words: &mut [u32]) -> bool
+    requires { ⌜ AREAS * (64 * WIDEST) ≤ length (now words) ⌝ }
 {
     let mut from = 0;
-    let mut list = 0;
-    while list < 10 {
-        let w = width(list);
-        if !fetch_list(words, from, told[7 + list], w) {
+    let mut row = 0;
+    while row < AREAS {
+        if !fetch_list(words, from, told[7 + row], row) {
             return false;
         }
-        from += size(CAPACITY, w);
-        list += 1;
+        from += size(CAPACITY, row);
+        row += 1;
     }
     true
 }
@@ -103,25 +101,31 @@ fn wide(low: u32, high: u32) -> u64
     (low as u64) + 4294967296 * (high as u64)
 }
 
-// The fifteen numbers that a record tells.
-fn numbers(w: &[u32; 17]) -> [u64; 15] {
-    [
-        wide(w[0], 0),
-        wide(w[1], 0),
-        wide(w[2], 0),
-        wide(w[3], w[4]),
-        wide(w[5], w[6]),
-        wide(w[7], 0),
-        wide(w[8], 0),
-        wide(w[9], 0),
-        wide(w[10], 0),
-        wide(w[11], 0),
-        wide(w[12], 0),
-        wide(w[13], 0),
-        wide(w[14], 0),
-        wide(w[15], 0),
-        wide(w[16], 0),
-    ]
+// A number that a record tells: first and second are of two words each.
+fn number(w: &[u32; TOLD], i: usize) -> u64
+    requires { ⌜ i < 5 + AREAS ⌝ }
+{
+    if i < 3 {
+        return wide(w[i], 0);
+    }
+    if i == 3 {
+        return wide(w[3], w[4]);
+    }
+    if i == 4 {
+        return wide(w[5], w[6]);
+    }
+    wide(w[i + 2], 0)
+}
+
+// All of them.
+fn numbers(w: &[u32; TOLD]) -> [u64; NUMBERS] {
+    let mut all = [0; NUMBERS];
+    let mut i = 0;
+    while i < NUMBERS {
+        all[i] = number(w, i);
+        i += 1;
+    }
+    all
 }
 
 // The first place at which numbers are not right; how many there are if none is wrong.
@@ -184,9 +188,9 @@ fn say_all(number: u64) {
 }
 
 // Whether the answer has the right numbers; says of the first that is wrong what it is.
-fn same_numbers(number: u64, found: &[u64; 15], right: &[u64; 15]) -> bool {
+fn same_numbers(number: u64, found: &[u64; NUMBERS], right: &[u64; NUMBERS]) -> bool {
     let at = number_off(found, right);
-    if at < 15 {
+    if at < NUMBERS {
         say_blob(number);
         say(b": number ", at, found[at], right[at]);
         return false;
@@ -207,9 +211,9 @@ fn same_words(number: u64, found: &[u32; WORDS], right: &[u32; WORDS]) -> bool {
 
 // Whether a blob is read as the rest of its record tells.
 fn replay_blob(number: u64, blob: &[u8]) -> bool {
-    let mut told = [0u32; 17];
+    let mut told = [0u32; TOLD];
     let mut right = [KEPT; WORDS];
-    if fetch(&mut told) != 68 {
+    if fetch(&mut told) != 4 * TOLD {
         say_broken(number);
         return false;
     }
@@ -218,8 +222,8 @@ fn replay_blob(number: u64, blob: &[u8]) -> bool {
         return false;
     }
     let mut words = [KEPT; WORDS];
-    let mut answer = [0u64; 15];
-    ducatfeather::ducat_read(blob, &mut words, &[CAPACITY; 10], &mut answer);
+    let mut answer = [0u64; NUMBERS];
+    ducatfeather::ducat_read(blob, &mut words, &[CAPACITY; AREAS], &mut answer);
     if !same_numbers(number, &answer, &numbers(&told)) {
         return false;
     }

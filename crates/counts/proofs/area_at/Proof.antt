@@ -2,7 +2,7 @@
 use Prim.Native.Nat.{_-_, _*_, _≤_}
 use mathlib.Core.Path.{_≡_, refl, ap, _∙_}
 use lib.ListN.{length, take}
-use Rattle.format.specs.Area.{rows, AREAS}
+use Rattle.format.specs.Area.{rows, AREAS, WIDEST}
 use Rattle.format.specs.Answer.{areas}
 use Rattle.counts.specs.Short.{areas-next}
 use borrow.Author.Needs.{needs}
@@ -12,7 +12,7 @@ use Rattle.counts.proofs.area_at.Tie as tie
 use Rattle.counts.proofs.words_of.Reads as words-of-reads
 
 abbrev Inv-loop : tie.InvT-loop
-Inv-loop row c sum₀ i₀ sum i = (i ≤ row) × (length c ≡ AREAS) × (sum ≡ areas rows (take i c)) × (sum ≤ i * 68719476720)
+Inv-loop row c sum₀ i₀ sum i = (i ≤ row) × (length c ≡ AREAS) × (sum ≡ areas rows (take i c)) × (sum ≤ i * (WIDEST * 4294967295))
 
 abbrev μ-loop : tie.MeasureT-loop
 μ-loop row c sum₀ i₀ sum i = row - i

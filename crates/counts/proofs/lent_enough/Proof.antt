@@ -4,7 +4,7 @@ use mathlib.Core.Path.{_≡_, refl, sym, _∙_}
 use mathlib.Core.Bool.{_&&_}
 use lib.Dec.{leb}
 use lib.ListN.{length, drop}
-use Rattle.format.specs.Area.{rows, AREAS}
+use Rattle.format.specs.Area.{rows, AREAS, WIDEST}
 use Rattle.format.specs.Answer.{moderate, areas}
 use native.Mathlib.Nat.{zero-add}
 use Rattle.counts.specs.Short.{lent-more, lent-stop, lent-end}
@@ -18,7 +18,7 @@ abbrev Inv-loop : tie.InvT-loop
 Inv-loop words c sum₀ i₀ sum i =
     (i ≤ AREAS)
     × (length c ≡ AREAS)
-    × (sum ≤ i * 68719476720)
+    × (sum ≤ i * (WIDEST * 4294967295))
     × ((moderate (drop i c) && leb (sum + areas (drop i rows) (drop i c)) words) ≡ (moderate c && leb (areas rows c) words))
 
 abbrev μ-loop : tie.MeasureT-loop

@@ -1,4 +1,4 @@
--- Of entries of at most 16 words.
+-- Of entries that are no wider than the widest.
 use Prim.Native.Nat.{_*_}
 use mathlib.Core.Path.{ap}
 use Rattle.counts.specs.Short.{words-most}

@@ -6,19 +6,19 @@ use borrow.Author.Needs.{needs}
 use lib.ListN.{length}
 use Rattle.blob.specs.declared.Verdict.the-variants as verdicts
 use Rattle.blob.specs.Reading.{run, verdict}
-use Rattle.blob.specs.Laws.{many-more, rest, rest-more, rest-none}
+use Rattle.blob.specs.Laws.{many-first, many-more, rest, rest-more, rest-none}
+use Rattle.format.specs.Area.{DEFINITIONS, width}
 use Rattle.format.specs.Table.{stride}
 use Rattle.format.specs.Definition.{definitionAt, step}
 use Rattle.format.specs.Lists.{definitionWords}
 use Rattle.definition.specs.Records.{rows, one-less}
-use Rattle.name.specs.Read.{first-fine}
 use Rattle.definition.proofs.fill_records.Statement.{statement}
 use Rattle.definition.proofs.fill_records.Tie as tie
 
 abbrev Inv-loop : tie.InvT-loop
 Inv-loop b kind start n area₀ bytes at₀ left₀ to₀ area at left to =
     (at + bytes * left ≤ length b)
-    × (to + 12 * left ≤ length area)
+    × (to + width DEFINITIONS * left ≤ length area)
     × (length area ≡ length area₀)
     × (verdict (run (rows kind bytes left at) b) ≡ verdicts.Fine)
     × (rest (definitionAt kind) (step (stride kind)) definitionWords b area₀ n start 0 ≡ rest (definitionAt kind) (step bytes) definitionWords b area left at to)
@@ -39,7 +39,7 @@ definition-of-requires : tie.Need-definition-of-requires Inv-loop μ-loop
 definition-of-requires c κs =
     let l = c .before .before in
     let o = one-less (l .before .stride .result) (l .loop .left) (c .before .loop-test .taken) in
-    let v = first-fine (definitionAt _) (step _) _ _ _ (c .before .loop-test .taken) (l .loop .inv .3) in
+    let v = many-first (definitionAt _) (step _) _ _ _ (c .before .loop-test .taken) (l .loop .inv .3) in
     search needs
 
 put-definition-requires : tie.Need-put-definition-requires Inv-loop μ-loop

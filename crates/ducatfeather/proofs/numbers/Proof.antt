@@ -5,6 +5,7 @@ use native.Mathlib.Omega.{arith}
 use native.Mathlib.Nat.{add-zero}
 use lib.ListN.{length, drop, length-set}
 use Rattle.blob.specs.Laid.{laid}
+use Rattle.format.specs.Area.{AREAS}
 use Rattle.words.specs.Rest.{laid-rest, laid-none}
 use Rattle.ducatfeather.specs.Laws.{laid-behind-five}
 use borrow.Author.Needs.{needs}
@@ -12,10 +13,10 @@ use Rattle.ducatfeather.proofs.numbers.Statement.{statement}
 use Rattle.ducatfeather.proofs.numbers.Tie as tie
 
 abbrev Inv-loop : tie.InvT-loop
-Inv-loop counts all₀ i₀ all i = (i ≤ 10) × (length counts ≡ 10) × (length all ≡ 15) × (laid all (5 + i) (drop i counts) ≡ laid all₀ 5 counts)
+Inv-loop counts all₀ i₀ all i = (i ≤ AREAS) × (length counts ≡ AREAS) × (length all ≡ 5 + AREAS) × (laid all (5 + i) (drop i counts) ≡ laid all₀ 5 counts)
 
 abbrev μ-loop : tie.MeasureT-loop
-μ-loop counts all₀ i₀ all i = 10 - i
+μ-loop counts all₀ i₀ all i = AREAS - i
 
 cast-all : tie.Need-cast-all Inv-loop μ-loop
 cast-all c = search needs

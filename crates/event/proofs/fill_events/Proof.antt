@@ -5,6 +5,7 @@ use native.Mathlib.Omega.{arith}
 use borrow.Author.Needs.{needs}
 use lib.ListN.{length}
 use Rattle.blob.specs.Laws.{rest, rest-more, rest-none}
+use Rattle.format.specs.Area.{EVENTS, width}
 use Rattle.format.specs.Definition.{step}
 use Rattle.format.specs.Event.{eventAt}
 use Rattle.format.specs.Lists.{eventWords}
@@ -15,7 +16,7 @@ use Rattle.event.proofs.fill_events.Tie as tie
 abbrev Inv-loop : tie.InvT-loop
 Inv-loop b at n area₀ next₀ left₀ to₀ area next left to =
     (next + 48 * left ≤ length b)
-    × (to + 16 * left ≤ length area)
+    × (to + width EVENTS * left ≤ length area)
     × (length area ≡ length area₀)
     × (rest eventAt (step 48) eventWords b area₀ n at 0 ≡ rest eventAt (step 48) eventWords b area left next to)
 

@@ -14,7 +14,7 @@ use Rattle.blob.specs.Reading.{Outcome, done, refused, choose, then, answer, ve
 use Rattle.format.specs.Area.{TEMPLATES, of}
 use Rattle.format.specs.Answer.{own, lent-enough, capped}
 use Rattle.format.specs.Lookup.{entriesOf, wordOf, counts-fit, position, numbered, byOffset, guidsFound}
-use Rattle.format.specs.Says.{verdictTold, nameTold, endTold, headerTold, definitionTold, tempTold, mapTold, entriesTold, crimTold, wevtTold, descriptorTold, guidsTold, templateTold}
+use Rattle.format.specs.Says.{verdictTold, endTold, headerTold, tempTold, mapTold, entriesTold, crimTold, wevtTold, descriptorTold, guidsTold, templateTold}
 use Rattle.format.specs as format
 
 -- an enum is the answer for an outcome exactly where it tells that outcome, or what it keeps of it
@@ -37,9 +37,7 @@ module _ {A R : Type 0} (told : R → Outcome A) where
 
 pub record Enums : Type 1 where
   pub verdict : {A : Type 0} → Keeps verdictTold (λ (a : A). tt) verdict
-  pub name : Exactly nameTold format.Name.nameRead
   pub header : Exactly headerTold format.Table.headerRead
-  pub definition : Exactly definitionTold format.Definition.definitionRead
   pub temp : Exactly tempTold format.Template.templateRead
   pub crim : Exactly crimTold format.Crim.crimRead
   pub wevt : Exactly wevtTold format.Provider.wevtRead
@@ -55,9 +53,7 @@ pub enums : Enums
 enums =
     record {
       verdict = keeps verdictTold (λ a. tt) (λ u. verdicts.Fine) (exactly verdictTold (λ a. refl) (λ q. refl) (λ r. elim r [ verdicts.Fine ↦ refl | verdicts.Refused q ↦ refl ]));
-      name = exactly nameTold (λ a. refl) (λ q. refl) (λ r. elim r [ format.declared.NameRead.the-variants.Name a ↦ refl | format.declared.NameRead.the-variants.Refused q ↦ refl ]);
       header = exactly headerTold (λ a. refl) (λ q. refl) (λ r. elim r [ format.declared.HeaderRead.the-variants.Header a ↦ refl | format.declared.HeaderRead.the-variants.Refused q ↦ refl ]);
-      definition = exactly definitionTold (λ a. refl) (λ q. refl) (λ r. elim r [ format.declared.DefinitionRead.the-variants.Definition a ↦ refl | format.declared.DefinitionRead.the-variants.Refused q ↦ refl ]);
       temp = exactly tempTold (λ a. refl) (λ q. refl) (λ r. elim r [ format.declared.TemplateRead.the-variants.Template a ↦ refl | format.declared.TemplateRead.the-variants.Refused q ↦ refl ]);
       crim = exactly crimTold (λ a. refl) (λ q. refl) (λ r. elim r [ format.declared.CrimRead.the-variants.Header a ↦ refl | format.declared.CrimRead.the-variants.Refused q ↦ refl ]);
       wevt = exactly wevtTold (λ a. refl) (λ q. refl) (λ r. elim r [ format.declared.WevtRead.the-variants.Wevt a ↦ refl | format.declared.WevtRead.the-variants.Refused q ↦ refl ]);

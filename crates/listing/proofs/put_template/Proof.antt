@@ -2,7 +2,6 @@
 use native.Mathlib.Omega.{arith}
 use Rattle.listing.specs.Rendered.{line}
 use borrow.Author.Needs.{needs}
-use borrow.Author.Needs.{needs}
 use Rattle.listing.proofs.put_template.Statement.{statement}
 use Rattle.listing.proofs.put_template.Tie as tie
 

@@ -3,23 +3,31 @@ use Prim.Native.Nat.{ℕ, _+_, _*_, _≤_}
 use mathlib.Core.Path.{_≡_}
 use mathlib.Core.List.{List}
 use native.Mathlib.Omega.{arith}
+use borrow.Author.Needs.{needs}
 use lib.ListN.{length}
+use Rattle.format.specs.Area.{TEMPLATES, width}
+use Rattle.format.specs.Answer.{areas}
 use Rattle.listing.specs.Rendered.{rendered}
-use Rattle.listing.specs.Put.{Put, linesFrom}
+use Rattle.listing.specs.Put.{Put, templates-at, linesFrom}
 use Rattle.listing.specs.Laws.{put-behind, put-none, lines-more, lines-none}
 use Rattle.listing.proofs.put_templates.Statement.{statement}
 use Rattle.listing.proofs.put_templates.Tie as tie
 
 abbrev Inv-loop : tie.InvT-loop
 Inv-loop words n out₀ at from₀ left₀ to₀ out from left to =
-    (length out ≡ length out₀) × (from + 12 * left ≤ length words) × (to + 105 * left ≤ at + 105 * n)
-    × ((end : ℕ) (after : List ℕ) → Put out to (rendered (linesFrom words left from)) end after → Put out₀ at (rendered (linesFrom words n 4032)) end after)
+    (length out ≡ length out₀) × (from + width TEMPLATES * left ≤ length words) × (to + 105 * left ≤ at + 105 * n)
+    × ((end : ℕ) (after : List ℕ) → Put out to (rendered (linesFrom words left from)) end after → Put out₀ at (rendered (linesFrom words n templates-at)) end after)
 
 abbrev μ-loop : tie.MeasureT-loop
 μ-loop words n out₀ at from₀ left₀ to₀ out from left to = left
 
+-- the area of the templates starts where the words before it end
+start : (c : tie.After-area-at Inv-loop μ-loop) → c .area-at .result ≡ templates-at
+unfolding areas
+start c = c .area-at .ensures .0
+
 loop-holds : tie.Need-loop-holds Inv-loop μ-loop
-loop-holds c = (omega arith, omega arith, omega arith, λ end after p. p)
+loop-holds c = (omega arith, omega (arith, start c), omega arith, λ end after p. rw (start c) at p)
 
 put-template-requires : tie.Need-put-template-requires Inv-loop μ-loop
 put-template-requires c κs = omega arith
@@ -40,7 +48,7 @@ loop-again c =
       omega arith,
       omega arith,
       omega arith,
-      λ end after p. m .loop .inv .3 end after (rw (lines-more (m .before .before .before .args .words .now) (m .loop .left) (m .loop .from) (omega arith)) (put-behind (t .put-template .ensures .0) p)),
+      λ end after p. m .loop .inv .3 end after (rw (lines-more (m .before .before .before .before .args .words .now) (m .loop .left) (m .loop .from) (omega arith)) (put-behind (t .put-template .ensures .0) p)),
     )
 
 same-length : tie.Need-same-length Inv-loop μ-loop
@@ -49,7 +57,7 @@ same-length c = omega arith
 returns : tie.Need-returns Inv-loop μ-loop
 returns c =
     let m = c .before in
-    (m .loop .inv .3 _ _ (rw (lines-none (m .before .before .before .args .words .now) (m .loop .left) (m .loop .from) (omega arith)) put-none), omega arith)
+    (m .loop .inv .3 _ _ (rw (lines-none (m .before .before .before .before .args .words .now) (m .loop .left) (m .loop .from) (omega arith)) put-none), omega arith)
 
 pub put-templates-spec : {M : Type 1} → statement M
 put-templates-spec =
@@ -57,6 +65,7 @@ put-templates-spec =
     (tie.spec
     Inv-loop
     μ-loop
+    (λ c κs. search needs)
     loop-holds
     put-template-requires
     add-from

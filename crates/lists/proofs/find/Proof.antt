@@ -24,9 +24,6 @@ abbrev μ-loop : tie.MeasureT-loop
 width-of-requires : tie.Need-width-of-requires Inv-loop μ-loop
 width-of-requires c κs = search needs
 
-cast-width : tie.Need-cast-width Inv-loop μ-loop
-cast-width c = search needs
-
 entry-at-requires : tie.Need-entry-at-requires Inv-loop μ-loop
 entry-at-requires c κs = search needs
 
@@ -91,7 +88,6 @@ find-spec =
     Inv-loop
     μ-loop
     width-of-requires
-    cast-width
     entry-at-requires
     loop-holds
     add-same

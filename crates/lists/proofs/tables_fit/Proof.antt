@@ -13,17 +13,11 @@ use Rattle.lists.proofs.tables_fit.Statement.{statement}
 use Rattle.lists.proofs.tables_fit.Tie as tie
 
 abbrev Inv-loop : tie.InvT-loop
-Inv-loop words counts w at₀ left₀ at left =
+Inv-loop words counts at₀ left₀ at left =
     (at + width TABLES * left ≤ length words) × (tablesFit counts (entriesFrom (width TABLES) left₀ at₀ words) ≡ tablesFit counts (entriesFrom (width TABLES) left at words))
 
 abbrev μ-loop : tie.MeasureT-loop
-μ-loop words counts w at₀ left₀ at left = left
-
-width-of-requires : tie.Need-width-of-requires Inv-loop μ-loop
-width-of-requires c κs = search needs
-
-cast-width : tie.Need-cast-width Inv-loop μ-loop
-cast-width c = search needs
+μ-loop words counts at₀ left₀ at left = left
 
 area-at-requires : tie.Need-area-at-requires Inv-loop μ-loop
 area-at-requires c κs = search needs
@@ -33,7 +27,7 @@ array-read-left c = search needs
 
 loop-holds : tie.Need-loop-holds Inv-loop μ-loop
 loop-holds c =
-    let o = c .before .before .before in
+    let o = c .before .before in
     (omega (arith, c .area-at .ensures .0, inside (o .args .words .now) (o .args .capacities) (o .args .t3) (o .pre) (place TABLES) .0), refl)
 
 table-fits-requires : tie.Need-table-fits-requires Inv-loop μ-loop
@@ -42,7 +36,7 @@ table-fits-requires c κs = search needs
 returns : tie.Need-returns Inv-loop μ-loop
 returns c =
     let l = c .before .before .before in
-    let a = l .before .before .before .before .args in
+    let a = l .before .before .before .args in
     sym
     (ap (λ at. tablesFit (a .t3) (entriesFrom (width TABLES) (getD (a .t3) (place TABLES) 0) at (a .words .now))) (sym (l .before .area-at .ensures .0))
     ∙ l .loop .inv .1
@@ -60,14 +54,13 @@ loop-less c = search needs
 loop-again : tie.Need-loop-again Inv-loop μ-loop
 loop-again c =
     let l = c .before .before .before in
-    let a = l .before .before .before .before .args in
-    rw (l .before .before .width-of .ensures .0)
+    let a = l .before .before .before .args in
     (omega arith, l .loop .inv .1 ∙ tables-fine (a .words .now) (a .t3) _ _ (c .before .before .loop-test .taken) (sym (c .before .table-fits .ensures) ∙ not-false _ (c .if1 .left)))
 
 returns-2 : tie.Need-returns-2 Inv-loop μ-loop
 returns-2 c =
     let l = c .before in
-    let a = l .before .before .before .before .args in
+    let a = l .before .before .before .args in
     sym
     (ap (λ at. tablesFit (a .t3) (entriesFrom (width TABLES) (getD (a .t3) (place TABLES) 0) at (a .words .now))) (sym (l .before .area-at .ensures .0))
     ∙ l .loop .inv .1
@@ -79,8 +72,6 @@ tables-fit-spec =
     (tie.spec
     Inv-loop
     μ-loop
-    width-of-requires
-    cast-width
     area-at-requires
     array-read-left
     loop-holds

@@ -12,19 +12,13 @@ use Rattle.lookup.proofs.mark.Statement.{statement}
 use Rattle.lookup.proofs.mark.Tie as tie
 
 abbrev Inv-loop : tie.InvT-loop
-Inv-loop words guid marks₀ w at₀ left₀ i₀ marks at left i =
+Inv-loop words guid marks₀ at₀ left₀ i₀ marks at left i =
     (at + width TEMPLATES * left ≤ length words)
     × (i + left ≤ 65536)
     × (markedFrom words guid 0 left₀ at₀ marks₀ ≡ markedFrom words guid i left at marks)
 
 abbrev μ-loop : tie.MeasureT-loop
-μ-loop words guid marks₀ w at₀ left₀ i₀ marks at left i = left
-
-width-of-requires : tie.Need-width-of-requires Inv-loop μ-loop
-width-of-requires c κs = search needs
-
-cast-width : tie.Need-cast-width Inv-loop μ-loop
-cast-width c = search needs
+μ-loop words guid marks₀ at₀ left₀ i₀ marks at left i = left
 
 loop-holds : tie.Need-loop-holds Inv-loop μ-loop
 loop-holds c = (omega arith, omega arith, refl)
@@ -60,13 +54,13 @@ loop-again : tie.Need-loop-again Inv-loop μ-loop
 loop-again c =
     let s = c .before .before in
     let l = s .before .before in
-    let a = l .before .before .before .before .args in
+    let a = l .before .before .before .args in
     let m = ap (set (l .loop .marks) (l .loop .i)) (c .either .ensures ∙ ap (λ t. choose t true (getD (l .loop .marks) (l .loop .i) false)) (s .same .ensures)) in
-    rw (l .before .width-of .ensures .0) (omega arith, omega arith, l .loop .inv .2 ∙ marked-more (a .words .now) (a .guid .now) _ _ _ _ (s .before .loop-test .taken) _ m)
+    (omega arith, omega arith, l .loop .inv .2 ∙ marked-more (a .words .now) (a .guid .now) _ _ _ _ (s .before .loop-test .taken) _ m)
 
 returns : tie.Need-returns Inv-loop μ-loop
 returns c =
-    let a = c .before .before .before .before .before .args in
+    let a = c .before .before .before .before .args in
     sym (c .before .loop .inv .2 ∙ marked-none (a .words .now) (a .guid .now) _ _ _ _ (c .loop-test .left))
 
 pub mark-spec : {M : Type 1} → statement M
@@ -75,8 +69,6 @@ mark-spec =
     (tie.spec
     Inv-loop
     μ-loop
-    width-of-requires
-    cast-width
     loop-holds
     add-same
     same-requires

@@ -1,10 +1,10 @@
 -- By the name's check.
 use mathlib.Core.Path.{ap, sym, _∙_}
 use borrow.Author.Needs.{needs}
+use Rattle.blob.specs.Laws.{refused-value}
 use Rattle.format.specs.declared.MapRead.the-variants as read
 use Rattle.format.specs.Region.{blob-end}
 use Rattle.format.specs.theorems.Until.{name-until}
-use Rattle.name.specs.Read.{is-refused}
 use Rattle.map.specs.Decides.{namedMap}
 use Rattle.map.proofs.named_map.Statement.{statement}
 use Rattle.map.proofs.named_map.Tie as tie
@@ -32,7 +32,7 @@ returns c = ap read.Map (c .value-map .ensures) ∙ sym (ap (namedMap _ _ _ _) (
 returns-2 : tie.Need-returns-2
 returns-2 c =
     let n = c .before .before .before in
-    sym (ap (namedMap _ _ _ _) (name-until blob-end _ _ _ ∙ is-refused _ _ (sym (c .before .r .given .1) ∙ n .check .ensures)))
+    sym (ap (namedMap _ _ _ _) (name-until blob-end _ _ _ ∙ refused-value _ _ (sym (c .before .r .given .1) ∙ n .check .ensures)))
 
 pub named-map-spec : {M : Type 1} → statement M
 named-map-spec = tie.close (tie.spec check-requires enum-told name-of-requires value-map-requires enum-known-r returns returns-2)

@@ -5,6 +5,7 @@ use native.Mathlib.Omega.{arith}
 use borrow.Author.Needs.{needs}
 use lib.ListN.{length}
 use Rattle.blob.specs.Laws.{rest, rest-more, rest-none}
+use Rattle.format.specs.Area.{ENTRIES, width}
 use Rattle.format.specs.Definition.{step}
 use Rattle.format.specs.Map.{entryAt}
 use Rattle.format.specs.Lists.{mapEntryWords}
@@ -15,7 +16,7 @@ use Rattle.map.proofs.put_entries.Tie as tie
 abbrev Inv-loop : tie.InvT-loop
 Inv-loop b start n area₀ from at₀ left₀ to₀ area at left to =
     (8 * left ≤ length b - at)
-    × (to + 2 * left ≤ length area)
+    × (to + width ENTRIES * left ≤ length area)
     × (length area ≡ length area₀)
     × (rest entryAt (step 8) mapEntryWords b area₀ n start from ≡ rest entryAt (step 8) mapEntryWords b area left at to)
 

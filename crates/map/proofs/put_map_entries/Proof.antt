@@ -8,6 +8,7 @@ use Rattle.blob.specs.declared.Verdict.the-variants as verdicts
 use Rattle.blob.specs.Laid.{laid, flat}
 use Rattle.blob.specs.Reading.{run, verdict, values}
 use Rattle.blob.specs.Laws.{fill-none}
+use Rattle.format.specs.Area.{ENTRIES, width}
 use Rattle.format.specs.Definition.{step}
 use Rattle.format.specs.steps.Needs.{entryCount}
 use Rattle.map.specs.Listed.{listedAt, listed}
@@ -18,7 +19,7 @@ use Rattle.map.proofs.put_map_entries.Tie as tie
 abbrev Inv-loop : tie.InvT-loop
 Inv-loop b end start n area₀ first place₀ left₀ to₀ area place left to =
     (place + 4 * left ≤ length b)
-    × (to + 2 * entryCount (values (unread end start first b left place)) ≡ 2 * entryCount (values (run (listed end start n) b)))
+    × (to + width ENTRIES * entryCount (values (unread end start first b left place)) ≡ width ENTRIES * entryCount (values (run (listed end start n) b)))
     × (length area ≡ length area₀)
     × (verdict (unread end start first b left place) ≡ verdicts.Fine)
     × (laid area₀ 0 (entriesWords (values (run (listed end start n) b))) ≡ laid area to (entriesWords (values (unread end start first b left place))))

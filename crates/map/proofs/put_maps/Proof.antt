@@ -8,6 +8,7 @@ use Rattle.blob.specs.declared.Verdict.the-variants as verdicts
 use Rattle.blob.specs.Laid.{laid, flat}
 use Rattle.blob.specs.Reading.{run, verdict, values}
 use Rattle.blob.specs.Laws.{fill-none}
+use Rattle.format.specs.Area.{MAPS, width}
 use Rattle.format.specs.Definition.{step}
 use Rattle.format.specs.steps.Needs.{entryCount}
 use Rattle.format.specs.Lists.{mapList}
@@ -19,7 +20,7 @@ use Rattle.map.proofs.put_maps.Tie as tie
 abbrev Inv-loop : tie.InvT-loop
 Inv-loop b end start n before area₀ first place₀ left₀ entries₀ to₀ area place left entries to =
     (place + 4 * left ≤ length b)
-    × (to + 11 * left ≤ length area)
+    × (to + width MAPS * left ≤ length area)
     × (length area ≡ length area₀)
     × (verdict (unread end start first b left place) ≡ verdicts.Fine)
     × (entries + entryCount (values (unread end start first b left place)) ≡ before + entryCount (values (run (listed end start n) b)))

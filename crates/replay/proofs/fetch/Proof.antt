@@ -5,6 +5,7 @@ use Prim.Native.Nat.{_*_}
 use mathlib.Core.List.{_++_}
 use mathlib.Core.Path.{_≡_, sym, _∙_}
 use lib.ListN.{length, drop, length-take}
+use Rattle.format.specs.Area.{WIDEST}
 use Rattle.replay.specs.Laws.{length-read}
 use Rattle.replay.proofs.fetch.Statement.{statement}
 use Rattle.replay.proofs.fetch.Tie as tie
@@ -25,10 +26,10 @@ read-full-requires : tie.Need-read-full-requires
 read-full-requires c κs = search needs
 
 -- the buffer once its first bytes are read
-whole : (r : tie.After-read-full) → length (r .read-full .last .1 .0 ++ drop (4 * length (r .before .before .before .before .args .to .now)) (r .before .before .buffer .result)) ≡ 4096
+whole : (r : tie.After-read-full) → length (r .read-full .last .1 .0 ++ drop (4 * length (r .before .before .before .before .args .to .now)) (r .before .before .buffer .result)) ≡ 4 * (64 * WIDEST)
 whole r =
     let s = r .before .before in
-    length-read (4 * length (s .before .before .args .to .now)) (s .buffer .result) (r .read-full .last .1 .0) (r .read-full .kept .1 .0) ∙ sym (s .buffer .ensures)
+    length-read (4 * length (s .before .before .args .to .now)) (s .buffer .result) (r .read-full .last .1 .0) (r .read-full .kept .1 .0) ∙ s .buffer .ensures
 
 slice-aggregate-put : tie.Need-slice-aggregate-put
 slice-aggregate-put c = sym (whole (c .before .before))
