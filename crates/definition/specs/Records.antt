@@ -12,9 +12,10 @@ use Rattle.blob.specs.Reading.{Reading, Outcome, done, refused, choose, run, ma
 use Rattle.blob.specs.Laws.{fine-value, refused-value, bind-fine, run-number, run-after, run-stopped}
 use Rattle.format.specs.Region.{blob-end, until}
 use Rattle.format.specs.theorems.Until.{name-until}
+use Rattle.table.specs.Headers.{no, of-kinds}
 use Rattle.words.specs.Guid.{guid-found}
 use Rattle.format.specs.Name.{absent, nameAt}
-use Rattle.format.specs.Table.{CHAN, KEYW, TASK, header-length, stride, tableEnd}
+use Rattle.format.specs.Table.{CHAN, KEYW, LEVL, OPCO, TASK, header-length, stride, tableEnd}
 use Rattle.format.specs.Definition.{guidAt, channelFields, keywordFields, taskFields, plainFields, fieldsAt, name-field, named, definitionAt, step, definitionsAt}
 use Rattle.blob.specs.declared.Refusal.{Refusal}
 use Rattle.format.specs.declared.Guid.{Guid}
@@ -22,6 +23,11 @@ use Rattle.format.specs.declared.Name.{Name}
 use Rattle.format.specs.declared.Definition.{Definition}
 use Rattle.format.specs.declared.Header.{Header}
 use Rattle.blob.specs.declared.Verdict.the-variants as verdicts
+
+-- the other kinds have no names
+pub no-name : (k : ℕ) → k ≤ 8 → no k CHAN → no k KEYW → no k LEVL → no k OPCO → no k TASK → name-field k ≡ 0
+no-name =
+    of-kinds (λ k. no k CHAN → no k KEYW → no k LEVL → no k OPCO → no k TASK → name-field k ≡ 0) (λ a b c d e. refl) (λ a b c d e. absurd (a refl)) (λ a b c d e. refl) (λ a b c d e. absurd (b refl)) (λ a b c d e. absurd (c refl)) (λ a b c d e. refl) (λ a b c d e. absurd (d refl)) (λ a b c d e. absurd (e refl)) (λ a b c d e. refl)
 
 -- a task's fields, once its GUID is read
 pub task-found : (at : ℕ) (s : List ℕ) (g : Guid) → run (guidAt (at + 8)) s ≡ done g

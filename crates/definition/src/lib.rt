@@ -22,7 +22,8 @@ use format::field::OPCO_DATA;
 use format::field::TASK_DATA;
 use format::kind::CHAN;
 use format::kind::KEYW;
-use format::kind::KINDS;
+use format::kind::LEVL;
+use format::kind::OPCO;
 use format::kind::TASK;
 use format::list::width;
 use name::absent;
@@ -31,24 +32,19 @@ use table::stride;
 use table::table_end;
 use words::guid_at;
 
-// By a kind's number: the field of its names; 0 where it has none.
-const NAMES: [u8; KINDS] = [
-    0,
-    CHAN_NAME,
-    0,
-    KEYW_DATA,
-    LEVL_DATA,
-    0,
-    OPCO_DATA,
-    TASK_DATA,
-    0,
-];
-
+// The field of a kind's names; 0 where it has none. (A match, here and in `table`: a constant array is made anew wherever it is read.)
 fn name_field(kind: u32) -> u8
     requires { ⌜ kind ≤ 8 ⌝ }
     ensures { λ r. ⌜ r ≡ name-field kind ⌝ }
 {
-    NAMES[kind as usize]
+    match kind {
+        CHAN => CHAN_NAME,
+        KEYW => KEYW_DATA,
+        LEVL => LEVL_DATA,
+        OPCO => OPCO_DATA,
+        TASK => TASK_DATA,
+        _ => 0,
+    }
 }
 
 // No GUID, of a kind that has none.

@@ -2,33 +2,55 @@
 use Prim.Native.Nat.{ℕ, zero, suc, _+_, _-_, _*_, _≤_, _<_}
 use mathlib.Core.Path.{_≡_, refl}
 use mathlib.Core.List.{List}
-use mathlib.Core.Bool.{_&&_}
 use native.Mathlib.Nat.{mul-le-mul}
 use native.Mathlib.Omega.{arith}
 use lib.ListN.{length}
-use lib.Dec.{leb, eqb}
+use lib.Dec.{eqb}
 use borrow.Author.Tests.{eq-eqb, ne-eqb, le-leb, lt-leb, leb-true}
 use Rattle.blob.specs.Le.{le}
 use Rattle.blob.specs.Reading.{done, refused, run}
-use Rattle.blob.specs.Laws.{both, passes, run-number, run-room, run-past, run-holds, run-fails, run-after, run-stopped}
+use Rattle.blob.specs.Laws.{run-number, run-room, run-past, run-holds, run-fails, run-after, run-stopped}
 use Rattle.blob.specs.Finds.{Finds, finds-got, finds-room, finds-choose, finds-demand, finds-bind}
 use Rattle.format.specs.Field.{table-offset, table-header, table-size, table-array}
 use Rattle.format.specs.Refuse.{offset-out, truncated, wrong-signature, size-out}
 use Rattle.format.specs.Region.{bounded}
 use Rattle.blob.specs.declared.Refusal.{Refusal}
 use Rattle.format.specs.declared.Header.{Header}
-use Rattle.format.specs.Table.{signature, header-length, stride, headerAt, tableEnd}
+use Rattle.format.specs.Table.{CHAN, EVNT, KEYW, LEVL, MAPS, OPCO, TASK, TTBL, signature, header-length, stride, headerAt, tableEnd}
+
+-- what holds of nine numbers holds of each kind's
+pub of-kinds : (P : ℕ → Type 0) → P 0 → P 1 → P 2 → P 3 → P 4 → P 5 → P 6 → P 7 → P 8 → (k : ℕ) → k ≤ 8 → P k
+of-kinds P a b c d e f g h i zero w = a
+of-kinds P a b c d e f g h i (suc zero) w = b
+of-kinds P a b c d e f g h i (suc (suc zero)) w = c
+of-kinds P a b c d e f g h i (suc (suc (suc zero))) w = d
+of-kinds P a b c d e f g h i (suc (suc (suc (suc zero)))) w = e
+of-kinds P a b c d e f g h i (suc (suc (suc (suc (suc zero))))) w = f
+of-kinds P a b c d e f g h i (suc (suc (suc (suc (suc (suc zero)))))) w = g
+of-kinds P a b c d e f g h i (suc (suc (suc (suc (suc (suc (suc zero))))))) w = h
+of-kinds P a b c d e f g h i (suc (suc (suc (suc (suc (suc (suc (suc zero)))))))) w = i
+of-kinds P a b c d e f g h i (suc (suc (suc (suc (suc (suc (suc (suc (suc k))))))))) w = absurd (omega arith)
 
 -- a header has at least 12 bytes, and at most 16
 pub header-bytes : (k : ℕ) → 1 ≤ k → k ≤ 8 → (12 ≤ header-length k) × (header-length k ≤ 16)
-header-bytes zero h g = absurd (omega arith)
-header-bytes (suc k) h g =
-    let t = both _ _ (passes 8 (λ k. leb 12 (header-length (suc k)) && leb (header-length (suc k)) 16) refl k (omega arith)) in
-    (leb-true _ _ (t .0), leb-true _ _ (t .1))
+header-bytes k h g =
+    of-kinds (λ k. 1 ≤ k → (12 ≤ header-length k) × (header-length k ≤ 16)) (λ h. absurd (omega arith)) (λ h. omega arith) (λ h. omega arith) (λ h. omega arith) (λ h. omega arith) (λ h. omega arith) (λ h. omega arith) (λ h. omega arith) (λ h. omega arith) k g h
 
--- a record has at most 48
-pub record-bytes : (k : ℕ) → k ≤ 8 → stride k ≤ 48
-record-bytes k h = leb-true _ _ (passes 9 (λ k. leb (stride k) 48) refl k (omega arith))
+-- what those have that have nothing of their own
+abbrev pub no : ℕ → ℕ → Type 0
+no k n = k ≡ n → ⊥
+
+pub no-signature : (k : ℕ) → k ≤ 8 → no k CHAN → no k EVNT → no k KEYW → no k LEVL → no k MAPS → no k OPCO → no k TASK → no k TTBL → signature k ≡ 0
+no-signature =
+    of-kinds (λ k. no k CHAN → no k EVNT → no k KEYW → no k LEVL → no k MAPS → no k OPCO → no k TASK → no k TTBL → signature k ≡ 0) (λ a b c d e f g h. refl) (λ a b c d e f g h. absurd (a refl)) (λ a b c d e f g h. absurd (b refl)) (λ a b c d e f g h. absurd (c refl)) (λ a b c d e f g h. absurd (d refl)) (λ a b c d e f g h. absurd (e refl)) (λ a b c d e f g h. absurd (f refl)) (λ a b c d e f g h. absurd (g refl)) (λ a b c d e f g h. absurd (h refl))
+
+pub short-header : (k : ℕ) → k ≤ 8 → 1 ≤ k → no k EVNT → no k MAPS → header-length k ≡ 12
+short-header =
+    of-kinds (λ k. 1 ≤ k → no k EVNT → no k MAPS → header-length k ≡ 12) (λ h a b. absurd (omega arith)) (λ h a b. refl) (λ h a b. absurd (a refl)) (λ h a b. refl) (λ h a b. refl) (λ h a b. absurd (b refl)) (λ h a b. refl) (λ h a b. refl) (λ h a b. refl)
+
+pub no-stride : (k : ℕ) → k ≤ 8 → no k CHAN → no k EVNT → no k KEYW → no k LEVL → no k OPCO → no k TASK → stride k ≡ 0
+no-stride =
+    of-kinds (λ k. no k CHAN → no k EVNT → no k KEYW → no k LEVL → no k OPCO → no k TASK → stride k ≡ 0) (λ a b c d e f. refl) (λ a b c d e f. absurd (a refl)) (λ a b c d e f. absurd (b refl)) (λ a b c d e f. absurd (c refl)) (λ a b c d e f. absurd (d refl)) (λ a b c d e f. refl) (λ a b c d e f. absurd (e refl)) (λ a b c d e f. absurd (f refl)) (λ a b c d e f. refl)
 
 module _ (k at : ℕ) (s : List ℕ) where
   pub header-past : length s < at → run (headerAt k at) s ≡ refused (offset-out (table-offset k) at .told (length s))

@@ -12,45 +12,60 @@ use format::field::TABLE_ARRAY;
 use format::field::TABLE_HEADER;
 use format::field::TABLE_OFFSET;
 use format::field::TABLE_SIZE;
-use format::kind::KINDS;
+use format::kind::CHAN;
+use format::kind::EVNT;
+use format::kind::KEYW;
+use format::kind::LEVL;
+use format::kind::MAPS;
+use format::kind::OPCO;
+use format::kind::TASK;
+use format::kind::TTBL;
 use format::signature;
 
-// By a kind's number: its signature, the bytes before its first record, and those of a record; 0 where there is none.
-const SIGNATURES: [u32; KINDS] = [
-    0,
-    signature::CHAN,
-    signature::EVNT,
-    signature::KEYW,
-    signature::LEVL,
-    signature::MAPS,
-    signature::OPCO,
-    signature::TASK,
-    signature::TTBL,
-];
-
-const HEADERS: [u32; KINDS] = [0, 12, 16, 12, 12, 16, 12, 12, 12];
-
-const STRIDES: [u32; KINDS] = [0, 16, 48, 16, 12, 0, 12, 28, 0];
-
+// The signature of a kind; 0 where it has none.
 fn signature(kind: u32) -> u32
     requires { ⌜ kind ≤ 8 ⌝ }
     ensures { λ r. ⌜ r ≡ spec.signature kind ⌝ }
 {
-    SIGNATURES[kind as usize]
+    match kind {
+        CHAN => signature::CHAN,
+        EVNT => signature::EVNT,
+        KEYW => signature::KEYW,
+        LEVL => signature::LEVL,
+        MAPS => signature::MAPS,
+        OPCO => signature::OPCO,
+        TASK => signature::TASK,
+        TTBL => signature::TTBL,
+        _ => 0,
+    }
 }
 
+// The bytes before a kind's first record.
 pub fn header_length(kind: u32) -> u32
     requires { ⌜ (1 ≤ kind) × (kind ≤ 8) ⌝ }
     ensures { λ r. ⌜ (r ≡ spec.header-length kind) × (12 ≤ r) × (r ≤ 16) ⌝ }
 {
-    HEADERS[kind as usize]
+    match kind {
+        EVNT => 16,
+        MAPS => 16,
+        _ => 12,
+    }
 }
 
+// The bytes of a kind's record; 0 where it has none.
 pub fn stride(kind: u32) -> u32
     requires { ⌜ kind ≤ 8 ⌝ }
     ensures { λ r. ⌜ (r ≡ spec.stride kind) × (r ≤ 48) ⌝ }
 {
-    STRIDES[kind as usize]
+    match kind {
+        CHAN => 16,
+        EVNT => 48,
+        KEYW => 16,
+        LEVL => 12,
+        OPCO => 12,
+        TASK => 28,
+        _ => 0,
+    }
 }
 
 // The bytes of so many records of a kind.

@@ -1,12 +1,21 @@
--- By the table.
-use mathlib.Core.Path.{refl}
+-- The others have 12.
+use mathlib.Core.Path.{sym}
+use Rattle.table.specs.Headers.{short-header}
 use borrow.Author.Needs.{needs}
-use Rattle.table.specs.Headers.{header-bytes}
+use native.Mathlib.Omega.{arith}
 use Rattle.table.proofs.header_length.Statement.{statement}
 use Rattle.table.proofs.header_length.Tie as tie
 
 returns : tie.Need-returns
-returns c = let b = header-bytes (c .args .kind) (c .pre .0) (c .pre .1) in (refl, b .0, b .1)
+returns c = search needs
+
+returns-2 : tie.Need-returns-2
+returns-2 c = search needs
+
+returns-3 : tie.Need-returns-3
+returns-3 c =
+    let k = c .before .args .kind in
+    (sym (short-header k (omega arith) (omega arith) (c .match .rest .0 .1) (c .match .rest .1)), omega arith, omega arith)
 
 pub header-length-spec : {M : Type 1} → statement M
-header-length-spec = tie.close (tie.spec (λ c. search needs) (λ c. search needs) returns)
+header-length-spec = tie.close (tie.spec returns returns-2 returns-3)
