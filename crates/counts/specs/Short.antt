@@ -8,16 +8,17 @@ use mathlib.Core.Bool.{Bool, true, false, _&&_}
 use mathlib.Core.List.{List, [], _∷_, map}
 use lib.Dec.{leb, ltb, eqb}
 use lib.ListN.{length, getD, drop, take, set, drop-of-length-le}
-use borrow.Author.Tests.{le-leb, lt-leb, leb-true, ltb-true, eqb-true}
+use borrow.Author.Tests.{le-leb, lt-leb, leb-true, ltb-true, eqb-true, ne-eqb}
 use Rattle.blob.specs.Places.{Each}
 use Rattle.blob.specs.Laws.{both, passes}
 use Rattle.blob.specs.Reading.{choose}
 use Rattle.blob.specs.declared.Verdict.{Verdict}
 use Rattle.blob.specs.declared.Verdict.the-variants as verdicts
-use Rattle.format.specs.Area.{Row, rows, AREAS, WIDEST, place}
+use Rattle.format.specs.Area.{Row, DEFINITIONS, rows, AREAS, WIDEST, place}
 use Rattle.format.specs.Answer.{too-small, capped, moderate, areas}
 use Rattle.format.specs.steps.Needs.{plus, modest}
-use Rattle.format.specs.Table.{kinds, kindList}
+use Rattle.format.specs.Table as kind
+use Rattle.format.specs.Table.{EVNT, TTBL, kindList}
 
 unfoldable pub short : List Row → List ℕ → List ℕ → Verdict
 short [] cs ks = verdicts.Fine
@@ -50,14 +51,15 @@ pub words-most : (n w : ℕ) → n < 4294967296 → w ≤ WIDEST → n * w ≤ W
 words-most n w h g = let l : n ≤ 4294967295 = omega arith in omega (arith, mul-le-mul l g)
 
 -- the rows of kinds
-abbrev pub kind-rows : List ℕ
-kind-rows = AREAS ∷ map (λ k. place (kindList k)) kinds
-
-pub kind-row : (k : ℕ) → 1 ≤ k → k ≤ 8 → (getD kind-rows k 0 ≡ place (kindList k)) × (getD kind-rows k 0 < AREAS)
+pub kind-row : (k : ℕ) → 1 ≤ k → k ≤ 8 → place (kindList k) < AREAS
 kind-row zero h g = absurd (omega arith)
-kind-row (suc k) h g =
-    let t = both _ _ (passes 8 (λ k. eqb (getD kind-rows (suc k) 0) (place (kindList (suc k))) && ltb (getD kind-rows (suc k) 0) AREAS) refl k (omega arith)) in
-    (eqb-true _ _ (t .0), ltb-true _ _ (t .1))
+kind-row (suc k) h g = ltb-true _ _ (passes 8 (λ k. ltb (place (kindList (suc k))) AREAS) refl k (omega arith))
+
+pub other-row : (k : ℕ) → 1 ≤ k → k ≤ 8 → (k ≡ EVNT → ⊥) → (k ≡ kind.MAPS → ⊥) → (k ≡ TTBL → ⊥) → place (kindList k) ≡ place DEFINITIONS
+other-row zero h g e m t = absurd (omega arith)
+other-row (suc k) h g e m t =
+    let x = passes 8 (λ k. choose (eqb (suc k) EVNT) true (choose (eqb (suc k) kind.MAPS) true (choose (eqb (suc k) TTBL) true (eqb (place (kindList (suc k))) (place DEFINITIONS))))) refl k (omega arith) in
+    eqb-true _ _ (rw (ne-eqb _ _ e, ne-eqb _ _ m, ne-eqb _ _ t) at x)
 
 -- row by row: what is left decides
 pub short-step : (rs : List Row) (cs ks : List ℕ) (i : ℕ) → i < length rs → i < length cs → i < length ks

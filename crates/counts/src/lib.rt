@@ -12,7 +12,9 @@ ghost use Rattle.format.specs.Table.{kindList};
 ghost use Rattle.counts.specs.Short.{widths, numbers, short};
 use blob::Refusal;
 use blob::Verdict;
-use format::kind::KINDS;
+use format::kind::EVNT;
+use format::kind::MAPS;
+use format::kind::TTBL;
 use format::list::AREAS;
 use format::list::MOST;
 use format::list::NUMBERS;
@@ -20,23 +22,16 @@ use format::list::WORDS;
 use format::list::row;
 
 // Which row has the entries of a kind's tables.
-const ROWS: [usize; KINDS] = [
-    AREAS,
-    row::DEFINITIONS,
-    row::EVENTS,
-    row::DEFINITIONS,
-    row::DEFINITIONS,
-    row::MAPS,
-    row::DEFINITIONS,
-    row::DEFINITIONS,
-    row::TEMPLATES,
-];
-
 pub fn row_of(kind: u32) -> usize
     requires { ⌜ (1 ≤ kind) × (kind ≤ 8) ⌝ }
     ensures { λ r. ⌜ (r ≡ area.place (kindList kind)) × (r < area.AREAS) ⌝ }
 {
-    ROWS[kind as usize]
+    match kind {
+        EVNT => row::EVENTS,
+        MAPS => row::MAPS,
+        TTBL => row::TEMPLATES,
+        _ => row::DEFINITIONS,
+    }
 }
 
 // With so many more in the list of a kind's entries, as far as anyone asks.

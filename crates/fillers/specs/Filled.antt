@@ -170,7 +170,7 @@ module _ (k at : ℕ) (h : Header) (s : List ℕ) (v : verdict (run (tableAt k a
     unfolding tablePart
     table-room = (
       roomed TABLES n before area _ r refl,
-      few-more (kindList k) (h .count) before (let x = kind-row k one most in omega (arith, x .0, x .1)) (subst Counted (one-behind TABLES n before ∙ table-behind k at h s here (fine-value found v .1) one most before) (r .few)),
+      few-more (kindList k) (h .count) before (kind-row k one most) (subst Counted (one-behind TABLES n before ∙ table-behind k at h s here (fine-value found v .1) one most before) (r .few)),
     )
 
     pub table-stored : (x : Trailing) (i : ℕ) (area' : List ℕ) → x ≡ trailingOf found → i ≡ place (kindList k)

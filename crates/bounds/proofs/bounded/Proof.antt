@@ -11,9 +11,6 @@ use Rattle.format.specs.Region.{bounded}
 use Rattle.bounds.proofs.bounded.Statement.{statement}
 use Rattle.bounds.proofs.bounded.Tie as tie
 
-has-room-requires : tie.Need-has-room-requires
-has-room-requires c κs = search needs
-
 add-end : tie.Need-add-end
 add-end c =
     let a = c .before .before .before .before .args in
@@ -22,9 +19,6 @@ add-end c =
 returns : tie.Need-returns
 unfolding run demand bounded
 returns c = rw (le-leb _ _ (c .before .before .if1 .taken), sym (c .before .has-room .ensures) ∙ c .if2 .taken)
-
-size-out-requires : tie.Need-size-out-requires
-size-out-requires c κs = search needs
 
 returns-2 : tie.Need-returns-2
 unfolding run demand bounded
@@ -35,4 +29,4 @@ returns-2 c =
     (c .before .if1 .came)
 
 pub bounded-spec : {M : Type 1} → statement M
-bounded-spec = tie.close (tie.spec has-room-requires add-end returns size-out-requires returns-2)
+bounded-spec = tie.close (tie.spec (λ c κs. search needs) add-end returns (λ c κs. search needs) returns-2)

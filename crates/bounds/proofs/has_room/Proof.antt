@@ -11,9 +11,6 @@ use Rattle.bounds.proofs.has_room.Tie as tie
 returns : tie.Need-returns
 returns c = let a = c .before .args in sym (lt-leb (a .at + a .needed) (length (a .b .now)) (omega arith))
 
-sub-if2 : tie.Need-sub-if2
-sub-if2 c = search needs
-
 returns-2 : tie.Need-returns-2
 returns-2 c = let a = c .before .before .args in sym (lt-leb (a .at + a .needed) (length (a .b .now)) (omega arith))
 
@@ -21,4 +18,4 @@ returns-3 : tie.Need-returns-3
 returns-3 c = let a = c .before .before .args in sym (le-leb (a .at + a .needed) (length (a .b .now)) (omega arith))
 
 pub has-room-spec : {M : Type 1} → statement M
-has-room-spec = tie.close (tie.spec returns sub-if2 returns-2 returns-3)
+has-room-spec = tie.close (tie.spec returns (λ c. search needs) returns-2 returns-3)

@@ -23,12 +23,9 @@ returns : tie.Need-returns
 unfolding run regionAt
 returns c = rw (eq-eqb _ _ (c .if1 .taken))
 
-bounded-requires : tie.Need-bounded-requires
-bounded-requires c κs = search needs
-
 returns-2 : tie.Need-returns-2
 unfolding regionAt
 returns-2 c = rw (ne-eqb _ _ (c .before .if1 .left)) (c .bounded .ensures ∙ until-end _ _ _)
 
 pub region-end-spec : {M : Type 1} → statement M
-region-end-spec = tie.close (tie.spec returns bounded-requires returns-2)
+region-end-spec = tie.close (tie.spec returns (λ c κs. search needs) returns-2)

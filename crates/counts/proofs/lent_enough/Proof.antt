@@ -27,34 +27,10 @@ abbrev μ-loop : tie.MeasureT-loop
 loop-holds : tie.Need-loop-holds Inv-loop μ-loop
 loop-holds c = (omega arith, omega arith, omega arith, rw zero-add)
 
-mul-if1 : tie.Need-mul-if1 Inv-loop μ-loop
-mul-if1 c = search needs
-
-array-read-if1 : tie.Need-array-read-if1 Inv-loop μ-loop
-array-read-if1 c = search needs
-
 returns : tie.Need-returns Inv-loop μ-loop
 returns c =
     let m = c .before .before .loop in
     sym (lent-stop _ (m .inv .1) (m .i) (m .sum) _ (omega arith) (c .if1 .taken)) ∙ m .inv .3
-
-mul-words-of : tie.Need-mul-words-of Inv-loop μ-loop
-mul-words-of c = search needs
-
-array-read-words-of : tie.Need-array-read-words-of Inv-loop μ-loop
-array-read-words-of c = search needs
-
-words-of-requires : tie.Need-words-of-requires Inv-loop μ-loop
-words-of-requires c κs = search needs
-
-add-sum : tie.Need-add-sum Inv-loop μ-loop
-add-sum c = search needs
-
-add-i : tie.Need-add-i Inv-loop μ-loop
-add-i c = search needs
-
-loop-less : tie.Need-loop-less Inv-loop μ-loop
-loop-less c = search needs
 
 loop-again : tie.Need-loop-again Inv-loop μ-loop
 loop-again c =
@@ -73,14 +49,14 @@ lent-enough-spec =
     Inv-loop
     μ-loop
     loop-holds
-    mul-if1
-    array-read-if1
+    (λ c. search needs)
+    (λ c. search needs)
     returns
-    mul-words-of
-    array-read-words-of
-    words-of-requires
-    add-sum
-    add-i
-    loop-less
+    (λ c. search needs)
+    (λ c. search needs)
+    (λ c κs. search needs)
+    (λ c. search needs)
+    (λ c. search needs)
+    (λ c. search needs)
     loop-again
     returns-2)

@@ -1,18 +1,15 @@
--- By the table.
-use Rattle.counts.specs.Short.{kind-row}
-use borrow.Author.Needs.{needs}
+-- The other kinds have definitions.
+use mathlib.Core.Path.{sym}
 use native.Mathlib.Omega.{arith}
+use borrow.Author.Needs.{needs}
+use Rattle.counts.specs.Short.{other-row}
 use Rattle.counts.proofs.row_of.Statement.{statement}
 use Rattle.counts.proofs.row_of.Tie as tie
 
-mul-result : tie.Need-mul-result
-mul-result c = search needs
-
-array-read-result : tie.Need-array-read-result
-array-read-result c = search needs
-
-returns : tie.Need-returns
-returns c = kind-row (c .args .kind) (omega arith) (omega arith)
+returns-4 : tie.Need-returns-4
+returns-4 c =
+    let r = c .match .rest in
+    (sym (other-row _ (c .before .pre .0) (c .before .pre .1) (r .0 .0 .1) (r .0 .1) (r .1)), omega arith)
 
 pub row-of-spec : {M : Type 1} → statement M
-row-of-spec = tie.close (tie.spec mul-result array-read-result returns)
+row-of-spec = tie.close (tie.spec (λ c. search needs) (λ c. search needs) (λ c. search needs) returns-4)

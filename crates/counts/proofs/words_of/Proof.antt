@@ -9,9 +9,6 @@ use Rattle.counts.proofs.words_of.Statement.{statement}
 use Rattle.counts.proofs.words_of.Tie as tie
 use Rattle.counts.proofs.width_of.Reads as width-of-reads
 
-width-of-requires : tie.Need-width-of-requires
-width-of-requires c κs = search needs
-
 mul-result : tie.Need-mul-result
 mul-result c = omega (arith, words-most (c .before .args .entries) (c .width-of .result) (omega arith) (c .width-of .ensures .1))
 
@@ -19,4 +16,4 @@ returns : tie.Need-returns
 returns c = (ap (λ w. c .before .args .entries * w) (c .width-of .ensures .0), words-most (c .before .args .entries) (c .width-of .result) (omega arith) (c .width-of .ensures .1))
 
 pub words-of-spec : {M : Type 1} → statement M
-words-of-spec = tie.close (tie.spec width-of-requires mul-result returns)
+words-of-spec = tie.close (tie.spec (λ c κs. search needs) mul-result returns)

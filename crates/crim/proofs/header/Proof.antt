@@ -14,77 +14,35 @@ use Rattle.crim.proofs.header.Tie as tie
 signed : (e : tie.Else2) → le 4 (e .before .before .before .before .args .b .now) 0 ≡ CRIM
 signed e = sym (e .before .word .ensures) ∙ e .if2 .left
 
-truncated-requires : tie.Need-truncated-requires
-truncated-requires c κs = search needs
-
 returns : tie.Need-returns
 returns c = answer-refused read.Header read.Refused _ _ _ (c .truncated .ensures) (no-signature _ (omega arith))
-
-word-requires : tie.Need-word-requires
-word-requires c κs = search needs
-
-wrong-signature-requires : tie.Need-wrong-signature-requires
-wrong-signature-requires c κs = search needs
 
 returns-2 : tie.Need-returns-2
 returns-2 c =
     let w = c .before .before .word .ensures in
     answer-refused read.Header read.Refused _ _ _ (rw (← w) (c .wrong-signature .ensures)) (other-signature _ (omega arith) (λ e. c .before .if2 .taken (w ∙ e)))
 
-truncated-requires-2 : tie.Need-truncated-requires-2
-truncated-requires-2 c κs = search needs
-
 returns-3 : tie.Need-returns-3
 returns-3 c = answer-refused read.Header read.Refused _ _ _ (c .truncated2 .ensures) (no-size _ (omega arith) (signed (c .before .before)) (omega arith))
-
-truncated-requires-3 : tie.Need-truncated-requires-3
-truncated-requires-3 c κs = search needs
 
 returns-4 : tie.Need-returns-4
 returns-4 c = answer-refused read.Header read.Refused _ _ _ (c .truncated3 .ensures) (no-major _ (omega arith) (signed (c .before .before .before)) (omega arith) (omega arith))
 
-truncated-requires-4 : tie.Need-truncated-requires-4
-truncated-requires-4 c κs = search needs
-
 returns-5 : tie.Need-returns-5
 returns-5 c = answer-refused read.Header read.Refused _ _ _ (c .truncated4 .ensures) (no-minor _ (omega arith) (signed (c .before .before .before .before)) (omega arith) (omega arith))
 
-truncated-requires-5 : tie.Need-truncated-requires-5
-truncated-requires-5 c κs = search needs
-
 returns-6 : tie.Need-returns-6
 returns-6 c = answer-refused read.Header read.Refused _ _ _ (c .truncated5 .ensures) (no-count _ (omega arith) (signed (c .before .before .before .before .before)) (omega arith) (omega arith))
-
-word-requires-2 : tie.Need-word-requires-2
-word-requires-2 c κs = search needs
-
-size-out-requires : tie.Need-size-out-requires
-size-out-requires c κs = search needs
 
 returns-7 : tie.Need-returns-7
 returns-7 c =
     let w = c .before .before in
     answer-refused read.Header read.Refused _ _ _ (rw (← w .word2 .ensures) (c .size-out .ensures)) (size-under _ (omega arith) (signed (w .before .before .before .before .before)) (omega arith) (omega arith))
 
-cast-if8 : tie.Need-cast-if8
-cast-if8 c = search needs
-
-size-out-requires-2 : tie.Need-size-out-requires-2
-size-out-requires-2 c κs = search needs
-
 returns-8 : tie.Need-returns-8
 returns-8 c =
     let w = c .before .before .before in
     answer-refused read.Header read.Refused _ _ _ (rw (← w .word2 .ensures) (c .size-out2 .ensures)) (size-past _ (omega arith) (signed (w .before .before .before .before .before)) (omega arith) (omega arith) (omega arith))
-
-half-requires : tie.Need-half-requires
-half-requires c κs = search needs
-
-half-requires-2 : tie.Need-half-requires-2
-half-requires-2 c κs = search needs
-
-word-requires-3 : tie.Need-word-requires-3
-word-requires-3 c κs = search needs
 
 returns-9 : tie.Need-returns-9
 returns-9 c =
@@ -96,26 +54,26 @@ pub header-spec : {M : Type 1} → statement M
 header-spec =
     tie.close
     (tie.spec
-    truncated-requires
+    (λ c κs. search needs)
     returns
-    word-requires
-    wrong-signature-requires
+    (λ c κs. search needs)
+    (λ c κs. search needs)
     returns-2
-    truncated-requires-2
+    (λ c κs. search needs)
     returns-3
-    truncated-requires-3
+    (λ c κs. search needs)
     returns-4
-    truncated-requires-4
+    (λ c κs. search needs)
     returns-5
-    truncated-requires-5
+    (λ c κs. search needs)
     returns-6
-    word-requires-2
-    size-out-requires
+    (λ c κs. search needs)
+    (λ c κs. search needs)
     returns-7
-    cast-if8
-    size-out-requires-2
+    (λ c. search needs)
+    (λ c κs. search needs)
     returns-8
-    half-requires
-    half-requires-2
-    word-requires-3
+    (λ c κs. search needs)
+    (λ c κs. search needs)
+    (λ c κs. search needs)
     returns-9)

@@ -10,12 +10,6 @@ use Rattle.definition.specs.Records.{table-refused, table-rows}
 use Rattle.definition.proofs.check_definitions.Statement.{statement}
 use Rattle.definition.proofs.check_definitions.Tie as tie
 
-table-end-requires : tie.Need-table-end-requires
-table-end-requires c κs = search needs
-
-enum-known-bound : tie.Need-enum-known-bound
-enum-known-bound c = search needs
-
 returns : tie.Need-returns
 returns c =
     let m = c .before .before .before in
@@ -24,15 +18,6 @@ returns c =
 
 enum-told : tie.Need-enum-told
 enum-told c = search needs
-
-header-length-requires : tie.Need-header-length-requires
-header-length-requires c κs = search needs
-
-cast-check-records : tie.Need-cast-check-records
-cast-check-records c = search needs
-
-add-check-records : tie.Need-add-check-records
-add-check-records c = search needs
 
 check-records-requires : tie.Need-check-records-requires
 check-records-requires c κs =
@@ -50,12 +35,12 @@ pub check-definitions-spec : {M : Type 1} → statement M
 check-definitions-spec =
     tie.close
     (tie.spec
-    table-end-requires
-    enum-known-bound
+    (λ c κs. search needs)
+    (λ c. search needs)
     returns
     enum-told
-    header-length-requires
-    cast-check-records
-    add-check-records
+    (λ c κs. search needs)
+    (λ c. search needs)
+    (λ c. search needs)
     check-records-requires
     returns-2)

@@ -19,18 +19,6 @@ Inv-loop b kind start n bytes field place at₀ left₀ at left =
 abbrev μ-loop : tie.MeasureT-loop
 μ-loop b kind start n bytes field place at₀ left₀ at left = left
 
-stride-requires : tie.Need-stride-requires Inv-loop μ-loop
-stride-requires c κs = search needs
-
-cast-bytes : tie.Need-cast-bytes Inv-loop μ-loop
-cast-bytes c = search needs
-
-name-field-requires : tie.Need-name-field-requires Inv-loop μ-loop
-name-field-requires c κs = search needs
-
-name-place-requires : tie.Need-name-place-requires Inv-loop μ-loop
-name-place-requires c κs = search needs
-
 loop-holds : tie.Need-loop-holds Inv-loop μ-loop
 loop-holds c = let e = c .before .before .stride .ensures .0 in (rw e (search needs), rw e)
 
@@ -43,12 +31,6 @@ word-requires : tie.Need-word-requires Inv-loop μ-loop
 word-requires c κs =
     let l = c .before in
     omega (arith, one-less (l .before .before .before .stride .result) (l .loop .left) (c .loop-test .taken))
-
-check-requires : tie.Need-check-requires Inv-loop μ-loop
-check-requires c κs = search needs
-
-enum-known-found : tie.Need-enum-known-found Inv-loop μ-loop
-enum-known-found c = search needs
 
 returns : tie.Need-returns Inv-loop μ-loop
 returns c =
@@ -67,12 +49,6 @@ add-at : tie.Need-add-at Inv-loop μ-loop
 add-at c =
     let i = c .before .before .before .before in
     omega (arith, one-less (i .before .before .before .before .stride .result) (i .before .loop .left) (i .loop-test .taken))
-
-sub-left : tie.Need-sub-left Inv-loop μ-loop
-sub-left c = search needs
-
-loop-less : tie.Need-loop-less Inv-loop μ-loop
-loop-less c = search needs
 
 loop-again : tie.Need-loop-again Inv-loop μ-loop
 loop-again c =
@@ -94,19 +70,19 @@ check-records-spec =
     (tie.spec
     Inv-loop
     μ-loop
-    stride-requires
-    cast-bytes
-    name-field-requires
-    name-place-requires
+    (λ c κs. search needs)
+    (λ c. search needs)
+    (λ c κs. search needs)
+    (λ c κs. search needs)
     loop-holds
     add-word
     word-requires
-    check-requires
-    enum-known-found
+    (λ c κs. search needs)
+    (λ c. search needs)
     returns
     enum-told
     add-at
-    sub-left
-    loop-less
+    (λ c. search needs)
+    (λ c. search needs)
     loop-again
     returns-2)

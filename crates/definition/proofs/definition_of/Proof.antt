@@ -8,19 +8,10 @@ use borrow.Author.Needs.{needs}
 use Rattle.definition.proofs.definition_of.Statement.{statement}
 use Rattle.definition.proofs.definition_of.Tie as tie
 
-fields-at-requires : tie.Need-fields-at-requires
-fields-at-requires c κs = search needs
-
-name-field-requires : tie.Need-name-field-requires
-name-field-requires c κs = search needs
-
 name-of-requires : tie.Need-name-of-requires
 name-of-requires c κs =
     let v = name-fine _ _ _ _ (c .before .fields-at .ensures) _ (c .name-field .ensures) (c .before .before .before .pre .1 .1) in
     search needs
-
-with-name-requires : tie.Need-with-name-requires
-with-name-requires c κs = search needs
 
 returns : tie.Need-returns
 returns c =
@@ -31,4 +22,4 @@ returns c =
 pub definition-of-spec : {M : Type 1} → statement M
 definition-of-spec =
     tie.close
-    (tie.spec fields-at-requires name-field-requires name-of-requires with-name-requires returns)
+    (tie.spec (λ c κs. search needs) (λ c κs. search needs) name-of-requires (λ c κs. search needs) returns)

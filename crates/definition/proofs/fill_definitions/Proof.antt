@@ -9,15 +9,6 @@ use Rattle.definition.specs.Records.{table-ends, table-rows}
 use Rattle.definition.proofs.fill_definitions.Statement.{statement}
 use Rattle.definition.proofs.fill_definitions.Tie as tie
 
-header-length-requires : tie.Need-header-length-requires
-header-length-requires c κs = search needs
-
-cast-fill-records : tie.Need-cast-fill-records
-cast-fill-records c = search needs
-
-add-fill-records : tie.Need-add-fill-records
-add-fill-records c = search needs
-
 fill-records-requires : tie.Need-fill-records-requires
 fill-records-requires c κs =
     let v = c .before .before .before .before .pre .1 .1 .0 in
@@ -26,9 +17,6 @@ fill-records-requires c κs =
       search needs,
       (search needs, (rw (c .before .header-length .ensures .0) (sym (ap verdict (table-rows _ _ _ _ _ (t .1))) ∙ v), search needs)),
     )
-
-same-length : tie.Need-same-length
-same-length c = search needs
 
 returns : tie.Need-returns
 returns c =
@@ -42,9 +30,9 @@ pub fill-definitions-spec : {M : Type 1} → statement M
 fill-definitions-spec =
     tie.close
     (tie.spec
-    header-length-requires
-    cast-fill-records
-    add-fill-records
+    (λ c κs. search needs)
+    (λ c. search needs)
+    (λ c. search needs)
     fill-records-requires
-    same-length
+    (λ c. search needs)
     returns)

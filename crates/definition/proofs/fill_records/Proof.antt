@@ -26,12 +26,6 @@ Inv-loop b kind start n area₀ bytes at₀ left₀ to₀ area at left to =
 abbrev μ-loop : tie.MeasureT-loop
 μ-loop b kind start n area₀ bytes at₀ left₀ to₀ area at left to = left
 
-stride-requires : tie.Need-stride-requires Inv-loop μ-loop
-stride-requires c κs = search needs
-
-cast-bytes : tie.Need-cast-bytes Inv-loop μ-loop
-cast-bytes c = search needs
-
 loop-holds : tie.Need-loop-holds Inv-loop μ-loop
 loop-holds c = let e = c .stride .ensures .0 in (rw e (search needs), search needs, refl, rw e (search needs), rw e)
 
@@ -42,22 +36,10 @@ definition-of-requires c κs =
     let v = many-first (definitionAt _) (step _) _ _ _ (c .before .loop-test .taken) (l .loop .inv .3) in
     search needs
 
-put-definition-requires : tie.Need-put-definition-requires Inv-loop μ-loop
-put-definition-requires c κs = search needs
-
 add-at : tie.Need-add-at Inv-loop μ-loop
 add-at c =
     let i = c .before .before .before .before .before in
     omega (arith, one-less (i .before .before .stride .result) (i .before .loop .left) (i .loop-test .taken))
-
-sub-left : tie.Need-sub-left Inv-loop μ-loop
-sub-left c = search needs
-
-add-to : tie.Need-add-to Inv-loop μ-loop
-add-to c = search needs
-
-loop-less : tie.Need-loop-less Inv-loop μ-loop
-loop-less c = search needs
 
 loop-again : tie.Need-loop-again Inv-loop μ-loop
 loop-again c =
@@ -73,9 +55,6 @@ loop-again c =
       inv .4 ∙ rest-more (definitionAt _) (step _) definitionWords _ _ _ _ _ _ _ (p .put-definition .ensures) (i .loop-test .taken) found (inv .3),
     )
 
-same-length : tie.Need-same-length Inv-loop μ-loop
-same-length c = search needs
-
 returns : tie.Need-returns Inv-loop μ-loop
 returns c = sym (c .before .loop .inv .4 ∙ rest-none (definitionAt _) (step _) definitionWords _ _ _ _ _ (c .loop-test .left))
 
@@ -85,15 +64,15 @@ fill-records-spec =
     (tie.spec
     Inv-loop
     μ-loop
-    stride-requires
-    cast-bytes
+    (λ c κs. search needs)
+    (λ c. search needs)
     loop-holds
     definition-of-requires
-    put-definition-requires
+    (λ c κs. search needs)
     add-at
-    sub-left
-    add-to
-    loop-less
+    (λ c. search needs)
+    (λ c. search needs)
+    (λ c. search needs)
     loop-again
-    same-length
+    (λ c. search needs)
     returns)

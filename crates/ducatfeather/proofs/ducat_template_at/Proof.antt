@@ -5,24 +5,6 @@ use borrow.Author.Needs.{needs}
 use Rattle.ducatfeather.proofs.ducat_template_at.Statement.{statement}
 use Rattle.ducatfeather.proofs.ducat_template_at.Tie as tie
 
-template-at-requires : tie.Need-template-at-requires
-template-at-requires c κs = search needs
-
-template-numbers-requires : tie.Need-template-numbers-requires
-template-numbers-requires c κs = search needs
-
-slice-aggregate-tell : tie.Need-slice-aggregate-tell
-slice-aggregate-tell c = search needs
-
-tell-requires : tie.Need-tell-requires
-tell-requires c κs = search needs
-
-template-code-requires : tie.Need-template-code-requires
-template-code-requires c κs = search needs
-
-same-length : tie.Need-same-length
-same-length c = search needs
-
 returns : tie.Need-returns
 returns c =
     let t = c .before .before .before in
@@ -34,10 +16,10 @@ pub ducat-template-at-spec : {M : Type 1} → statement M
 ducat-template-at-spec =
     tie.close
     (tie.spec
-    template-at-requires
-    template-numbers-requires
-    slice-aggregate-tell
-    tell-requires
-    template-code-requires
-    same-length
+    (λ c κs. search needs)
+    (λ c κs. search needs)
+    (λ c. search needs)
+    (λ c κs. search needs)
+    (λ c κs. search needs)
+    (λ c. search needs)
     returns)

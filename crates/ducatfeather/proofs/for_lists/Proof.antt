@@ -6,14 +6,8 @@ use borrow.Author.Needs.{needs}
 use Rattle.ducatfeather.proofs.for_lists.Statement.{statement}
 use Rattle.ducatfeather.proofs.for_lists.Tie as tie
 
-slice-aggregate-put : tie.Need-slice-aggregate-put
-slice-aggregate-put c = search needs
-
-put-requires : tie.Need-put-requires
-put-requires c κs = search needs
-
 returns : tie.Need-returns
 returns c = c .before .put .ensures ∙ laid-whole _ _ (sym (c .before .before .before .before .pre))
 
 pub for-lists-spec : {M : Type 1} → statement M
-for-lists-spec = tie.close (tie.spec slice-aggregate-put put-requires returns)
+for-lists-spec = tie.close (tie.spec (λ c. search needs) (λ c κs. search needs) returns)

@@ -7,19 +7,13 @@ use borrow.Author.Needs.{needs}
 use Rattle.ducatfeather.proofs.needs.Statement.{statement}
 use Rattle.ducatfeather.proofs.needs.Tie as tie
 
-needs-requires : tie.Need-needs-requires
-needs-requires c κs = search needs
-
 returns : tie.Need-returns
 unfolding calledNeeds
 returns c = rw (eq-eqb _ _ (c .before .if1 .taken)) (c .needs .ensures .answered)
-
-refusal-requires : tie.Need-refusal-requires
-refusal-requires c κs = search needs
 
 returns-2 : tie.Need-returns-2
 unfolding calledNeeds
 returns-2 c = rw (ne-eqb _ _ (c .before .if1 .left)) (c .refusal .ensures ∙ sym (misfit-needs (c .before .before .before .args .blob .now)))
 
 pub needs-spec : {M : Type 1} → statement M
-needs-spec = tie.close (tie.spec needs-requires returns refusal-requires returns-2)
+needs-spec = tie.close (tie.spec (λ c κs. search needs) returns (λ c κs. search needs) returns-2)

@@ -18,53 +18,8 @@ Inv-loop counts all₀ i₀ all i = (i ≤ AREAS) × (length counts ≡ AREAS) �
 abbrev μ-loop : tie.MeasureT-loop
 μ-loop counts all₀ i₀ all i = AREAS - i
 
-cast-all : tie.Need-cast-all Inv-loop μ-loop
-cast-all c = search needs
-
-array-write-all : tie.Need-array-write-all Inv-loop μ-loop
-array-write-all c = search needs
-
-cast-all-2 : tie.Need-cast-all-2 Inv-loop μ-loop
-cast-all-2 c = search needs
-
-array-write-all-2 : tie.Need-array-write-all-2 Inv-loop μ-loop
-array-write-all-2 c = search needs
-
-array-write-all-3 : tie.Need-array-write-all-3 Inv-loop μ-loop
-array-write-all-3 c = search needs
-
-array-write-all-4 : tie.Need-array-write-all-4 Inv-loop μ-loop
-array-write-all-4 c = search needs
-
-array-write-all-5 : tie.Need-array-write-all-5 Inv-loop μ-loop
-array-write-all-5 c = search needs
-
 loop-holds : tie.Need-loop-holds Inv-loop μ-loop
 loop-holds c = (omega arith, search needs, search needs, refl)
-
-mul-all : tie.Need-mul-all Inv-loop μ-loop
-mul-all c = search needs
-
-array-read-all : tie.Need-array-read-all Inv-loop μ-loop
-array-read-all c = search needs
-
-cast-all-3 : tie.Need-cast-all-3 Inv-loop μ-loop
-cast-all-3 c = search needs
-
-add-all : tie.Need-add-all Inv-loop μ-loop
-add-all c = search needs
-
-mul-all-2 : tie.Need-mul-all-2 Inv-loop μ-loop
-mul-all-2 c = search needs
-
-array-write-all-6 : tie.Need-array-write-all-6 Inv-loop μ-loop
-array-write-all-6 c = search needs
-
-add-i : tie.Need-add-i Inv-loop μ-loop
-add-i c = search needs
-
-loop-less : tie.Need-loop-less Inv-loop μ-loop
-loop-less c = search needs
 
 loop-again : tie.Need-loop-again Inv-loop μ-loop
 loop-again c =
@@ -82,21 +37,21 @@ numbers-spec =
     (tie.spec
     Inv-loop
     μ-loop
-    cast-all
-    array-write-all
-    cast-all-2
-    array-write-all-2
-    array-write-all-3
-    array-write-all-4
-    array-write-all-5
+    (λ c. search needs)
+    (λ c. search needs)
+    (λ c. search needs)
+    (λ c. search needs)
+    (λ c. search needs)
+    (λ c. search needs)
+    (λ c. search needs)
     loop-holds
-    mul-all
-    array-read-all
-    cast-all-3
-    add-all
-    mul-all-2
-    array-write-all-6
-    add-i
-    loop-less
+    (λ c. search needs)
+    (λ c. search needs)
+    (λ c. search needs)
+    (λ c. search needs)
+    (λ c. search needs)
+    (λ c. search needs)
+    (λ c. search needs)
+    (λ c. search needs)
     loop-again
     returns)

@@ -6,28 +6,13 @@ use borrow.Author.Needs.{needs}
 use Rattle.ducatfeather.proofs.read.Statement.{statement}
 use Rattle.ducatfeather.proofs.read.Tie as tie
 
-refusal-requires : tie.Need-refusal-requires
-refusal-requires c κs = search needs
-
 returns : tie.Need-returns
 unfolding called
 returns c = rw (ne-eqb _ _ (c .before .if1 .taken)) (c .refusal .ensures, misfit-keeps _ _ (c .before .before .before .before .before .args .blob .now))
 
-refusal-requires-2 : tie.Need-refusal-requires-2
-refusal-requires-2 c κs = search needs
-
 returns-2 : tie.Need-returns-2
 unfolding called
 returns-2 c = rw (eq-eqb _ _ (c .before .before .if1 .left), ne-eqb _ _ (c .before .if2 .taken)) (c .refusal2 .ensures, misfit-keeps _ _ (c .before .before .before .before .before .before .args .blob .now))
-
-for-lists-requires : tie.Need-for-lists-requires
-for-lists-requires c κs = search needs
-
-read-requires : tie.Need-read-requires
-read-requires c κs = search needs
-
-same-length : tie.Need-same-length
-same-length c = search needs
 
 returns-3 : tie.Need-returns-3
 unfolding called
@@ -41,11 +26,11 @@ pub read-spec : {M : Type 1} → statement M
 read-spec =
     tie.close
     (tie.spec
-    refusal-requires
+    (λ c κs. search needs)
     returns
-    refusal-requires-2
+    (λ c κs. search needs)
     returns-2
-    for-lists-requires
-    read-requires
-    same-length
+    (λ c κs. search needs)
+    (λ c κs. search needs)
+    (λ c. search needs)
     returns-3)

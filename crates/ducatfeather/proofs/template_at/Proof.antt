@@ -8,20 +8,11 @@ use borrow.Author.Needs.{needs}
 use Rattle.ducatfeather.proofs.template_at.Statement.{statement}
 use Rattle.ducatfeather.proofs.template_at.Tie as tie
 
-each-row-requires : tie.Need-each-row-requires
-each-row-requires c κs = search needs
-
-own-requires : tie.Need-own-requires
-own-requires c κs = search needs
-
 returns : tie.Need-returns
 unfolding calledAt
 returns c =
     let e = c .before .before in
     rw (sym (e .each-row .ensures) ∙ not-true _ (c .before .if1 .taken)) (ap template.Refused (c .own .ensures))
-
-own-requires-2 : tie.Need-own-requires-2
-own-requires-2 c κs = search needs
 
 returns-2 : tie.Need-returns-2
 unfolding calledAt
@@ -41,9 +32,6 @@ for-lists-requires-2 c κs =
     let a = e .before .before .before .before .before .args in
     rows-of (a .capacities .now) (a .counts .now) (sym (e .before .each-row .ensures) ∙ not-false _ (e .if1 .left)) .1
 
-template-at-requires : tie.Need-template-at-requires
-template-at-requires c κs = search needs
-
 returns-3 : tie.Need-returns-3
 unfolding calledAt
 returns-3 c =
@@ -55,12 +43,12 @@ pub template-at-spec : {M : Type 1} → statement M
 template-at-spec =
     tie.close
     (tie.spec
-    each-row-requires
-    own-requires
+    (λ c κs. search needs)
+    (λ c κs. search needs)
     returns
-    own-requires-2
+    (λ c κs. search needs)
     returns-2
     for-lists-requires
     for-lists-requires-2
-    template-at-requires
+    (λ c κs. search needs)
     returns-3)

@@ -8,29 +8,17 @@ use borrow.Author.Needs.{needs}
 use Rattle.ducatfeather.proofs.templates_for.Statement.{statement}
 use Rattle.ducatfeather.proofs.templates_for.Tie as tie
 
-each-row-requires : tie.Need-each-row-requires
-each-row-requires c κs = search needs
-
-own-requires : tie.Need-own-requires
-own-requires c κs = search needs
-
 returns : tie.Need-returns
 unfolding calledFor
 returns c =
     let e = c .before .before in
     rw (sym (e .each-row .ensures) ∙ not-true _ (c .before .if1 .taken)) (ap guids.Refused (c .own .ensures), refl)
 
-own-requires-2 : tie.Need-own-requires-2
-own-requires-2 c κs = search needs
-
 returns-2 : tie.Need-returns-2
 unfolding calledFor
 returns-2 c =
     let m = c .before in
     rw (sym (m .before .before .each-row .ensures) ∙ not-false _ (m .before .if1 .left), ne-eqb _ _ (m .if2 .taken)) (ap guids.Refused (c .own2 .ensures), refl)
-
-own-requires-3 : tie.Need-own-requires-3
-own-requires-3 c κs = search needs
 
 returns-3 : tie.Need-returns-3
 unfolding calledFor
@@ -51,15 +39,6 @@ for-lists-requires-2 c κs =
     let a = e .before .before .before .before .before .before .before .args in
     rows-of (a .capacities .now) (a .counts .now) (sym (e .before .each-row .ensures) ∙ not-false _ (e .if1 .left)) .1
 
-key-of-requires : tie.Need-key-of-requires
-key-of-requires c κs = search needs
-
-templates-for-requires : tie.Need-templates-for-requires
-templates-for-requires c κs = search needs
-
-same-length : tie.Need-same-length
-same-length c = search needs
-
 returns-4 : tie.Need-returns-4
 unfolding calledFor
 returns-4 c =
@@ -74,16 +53,16 @@ pub templates-for-spec : {M : Type 1} → statement M
 templates-for-spec =
     tie.close
     (tie.spec
-    each-row-requires
-    own-requires
+    (λ c κs. search needs)
+    (λ c κs. search needs)
     returns
-    own-requires-2
+    (λ c κs. search needs)
     returns-2
-    own-requires-3
+    (λ c κs. search needs)
     returns-3
     for-lists-requires
     for-lists-requires-2
-    key-of-requires
-    templates-for-requires
-    same-length
+    (λ c κs. search needs)
+    (λ c κs. search needs)
+    (λ c. search needs)
     returns-4)

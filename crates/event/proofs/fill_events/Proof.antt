@@ -26,24 +26,6 @@ abbrev μ-loop : tie.MeasureT-loop
 loop-holds : tie.Need-loop-holds Inv-loop μ-loop
 loop-holds c = (search needs, search needs, refl, refl)
 
-event-at-requires : tie.Need-event-at-requires Inv-loop μ-loop
-event-at-requires c κs = search needs
-
-put-event-requires : tie.Need-put-event-requires Inv-loop μ-loop
-put-event-requires c κs = search needs
-
-add-next : tie.Need-add-next Inv-loop μ-loop
-add-next c = search needs
-
-sub-left : tie.Need-sub-left Inv-loop μ-loop
-sub-left c = search needs
-
-add-to : tie.Need-add-to Inv-loop μ-loop
-add-to c = search needs
-
-loop-less : tie.Need-loop-less Inv-loop μ-loop
-loop-less c = search needs
-
 loop-again : tie.Need-loop-again Inv-loop μ-loop
 loop-again c =
     let p = c .before .before in
@@ -55,9 +37,6 @@ loop-again c =
       inv .3 ∙ rest-more eventAt (step 48) eventWords _ _ _ _ _ _ _ (p .put-event .ensures) (l .loop-test .taken) (p .before .event-at .ensures) (events-fine _ _ _),
     )
 
-same-length : tie.Need-same-length Inv-loop μ-loop
-same-length c = search needs
-
 returns : tie.Need-returns Inv-loop μ-loop
 returns c = sym (c .before .loop .inv .3 ∙ rest-none eventAt (step 48) eventWords _ _ _ _ _ (c .loop-test .left))
 
@@ -68,12 +47,12 @@ fill-events-spec =
     Inv-loop
     μ-loop
     loop-holds
-    event-at-requires
-    put-event-requires
-    add-next
-    sub-left
-    add-to
-    loop-less
+    (λ c κs. search needs)
+    (λ c κs. search needs)
+    (λ c. search needs)
+    (λ c. search needs)
+    (λ c. search needs)
+    (λ c. search needs)
     loop-again
-    same-length
+    (λ c. search needs)
     returns)

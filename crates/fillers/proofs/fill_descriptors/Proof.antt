@@ -32,24 +32,6 @@ loop-holds c = (search needs, search needs, refl, search needs, refl)
 descriptor-of-requires : tie.Need-descriptor-of-requires Inv-loop μ-loop
 descriptor-of-requires c κs = (omega arith, next-described _ _ _ (c .loop-test .taken) (c .before .loop .inv .3))
 
-slice-aggregate-put : tie.Need-slice-aggregate-put Inv-loop μ-loop
-slice-aggregate-put c = search needs
-
-put-requires : tie.Need-put-requires Inv-loop μ-loop
-put-requires c κs = search needs
-
-add-at : tie.Need-add-at Inv-loop μ-loop
-add-at c = search needs
-
-sub-left : tie.Need-sub-left Inv-loop μ-loop
-sub-left c = search needs
-
-add-to : tie.Need-add-to Inv-loop μ-loop
-add-to c = search needs
-
-loop-less : tie.Need-loop-less Inv-loop μ-loop
-loop-less c = search needs
-
 loop-again : tie.Need-loop-again Inv-loop μ-loop
 loop-again c =
     let p = c .before .before in
@@ -64,9 +46,6 @@ loop-again c =
       inv .4 ∙ rest-more descriptorAt (step 8) descriptorWords _ _ _ _ _ _ _ (p .put .ensures) (m .loop-test .taken) found (inv .3),
     )
 
-same-length : tie.Need-same-length Inv-loop μ-loop
-same-length c = search needs
-
 returns : tie.Need-returns Inv-loop μ-loop
 returns c = (omega arith, sym (c .before .loop .inv .4 ∙ rest-none descriptorAt (step 8) descriptorWords _ _ _ _ _ (c .loop-test .left)))
 
@@ -78,12 +57,12 @@ fill-descriptors-spec =
     μ-loop
     loop-holds
     descriptor-of-requires
-    slice-aggregate-put
-    put-requires
-    add-at
-    sub-left
-    add-to
-    loop-less
+    (λ c. search needs)
+    (λ c κs. search needs)
+    (λ c. search needs)
+    (λ c. search needs)
+    (λ c. search needs)
+    (λ c. search needs)
     loop-again
-    same-length
+    (λ c. search needs)
     returns)

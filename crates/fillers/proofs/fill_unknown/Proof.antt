@@ -39,15 +39,6 @@ put-unknown-requires c κs = λ k.
     let r = unknown-room _ _ _ (m .loop-test .taken) _ (d .descriptor-of .ensures) (i .2) k in
     (r .0, omega (arith, r .1, i .1, i .3 .0, m .before .before .before .before .pre .1 .1))
 
-add-at : tie.Need-add-at Inv-loop μ-loop
-add-at c = search needs
-
-sub-left : tie.Need-sub-left Inv-loop μ-loop
-sub-left c = search needs
-
-loop-less : tie.Need-loop-less Inv-loop μ-loop
-loop-less c = search needs
-
 loop-again : tie.Need-loop-again Inv-loop μ-loop
 loop-again c =
     let p = c .before .before in
@@ -62,9 +53,6 @@ loop-again c =
       from-fine _ _ _ more _ found (i .2),
       (i .3 .0 ∙ x .0, i .3 .1 ∙ x .1),
     )
-
-same-length : tie.Need-same-length Inv-loop μ-loop
-same-length c = search needs
 
 returns : tie.Need-returns Inv-loop μ-loop
 unfolding laid flat unknowns
@@ -86,9 +74,9 @@ fill-unknown-spec =
     loop-holds
     descriptor-of-requires
     put-unknown-requires
-    add-at
-    sub-left
-    loop-less
+    (λ c. search needs)
+    (λ c. search needs)
+    (λ c. search needs)
     loop-again
-    same-length
+    (λ c. search needs)
     returns)

@@ -27,27 +27,6 @@ abbrev μ-loop : tie.MeasureT-loop
 loop-holds : tie.Need-loop-holds Inv-loop μ-loop
 loop-holds c = (search needs, search needs, refl, refl)
 
-word-requires : tie.Need-word-requires Inv-loop μ-loop
-word-requires c κs = search needs
-
-mul-area : tie.Need-mul-area Inv-loop μ-loop
-mul-area c = search needs
-
-slice-write-area : tie.Need-slice-write-area Inv-loop μ-loop
-slice-write-area c = search needs
-
-add-at : tie.Need-add-at Inv-loop μ-loop
-add-at c = search needs
-
-sub-left : tie.Need-sub-left Inv-loop μ-loop
-sub-left c = search needs
-
-add-to : tie.Need-add-to Inv-loop μ-loop
-add-to c = search needs
-
-loop-less : tie.Need-loop-less Inv-loop μ-loop
-loop-less c = search needs
-
 -- the words that are left are fine
 fine : (s : List ℕ) (n at : ℕ) → verdict (run (many (number 4) (step 4) n at) s) ≡ verdicts.Fine
 fine s = many-fine (number 4) (step 4) s (λ at. (_, finds-number 4 at s))
@@ -62,9 +41,6 @@ loop-again c =
       l .loop .inv .3 ∙ rest-more (number 4) (step 4) unknown2Words _ _ _ _ _ _ _ (ap (set (l .loop .area) (l .loop .to)) (c .word .ensures)) (c .before .loop-test .taken) (finds-number 4 _ _) (fine _ _ _),
     )
 
-same-length : tie.Need-same-length Inv-loop μ-loop
-same-length c = search needs
-
 returns : tie.Need-returns Inv-loop μ-loop
 returns c = (omega arith, sym (c .before .loop .inv .3 ∙ rest-none (number 4) (step 4) unknown2Words _ _ _ _ _ (c .loop-test .left)))
 
@@ -75,13 +51,13 @@ fill-unknown2-spec =
     Inv-loop
     μ-loop
     loop-holds
-    word-requires
-    mul-area
-    slice-write-area
-    add-at
-    sub-left
-    add-to
-    loop-less
+    (λ c κs. search needs)
+    (λ c. search needs)
+    (λ c. search needs)
+    (λ c. search needs)
+    (λ c. search needs)
+    (λ c. search needs)
+    (λ c. search needs)
     loop-again
-    same-length
+    (λ c. search needs)
     returns)

@@ -4,9 +4,6 @@ use borrow.Author.Needs.{needs}
 use Rattle.fillers.proofs.has_entries.Statement.{statement}
 use Rattle.fillers.proofs.has_entries.Tie as tie
 
-holds-definitions-requires : tie.Need-holds-definitions-requires
-holds-definitions-requires c κs = search needs
-
 returns : tie.Need-returns
 returns c = rw (c .match .keys1)
 
@@ -29,4 +26,4 @@ returns-6 c =
 pub has-entries-spec : {M : Type 1} → statement M
 has-entries-spec =
     tie.close
-    (tie.spec holds-definitions-requires returns returns-2 returns-3 returns-4 returns-5 returns-6)
+    (tie.spec (λ c κs. search needs) returns returns-2 returns-3 returns-4 returns-5 returns-6)

@@ -8,23 +8,11 @@ use borrow.Author.Needs.{needs}
 use Rattle.fillers.proofs.put_unknown.Statement.{statement}
 use Rattle.fillers.proofs.put_unknown.Tie as tie
 
-kind-of-requires : tie.Need-kind-of-requires
-kind-of-requires c κs = search needs
-
-cast-word : tie.Need-cast-word
-cast-word c = search needs
-
-add-word : tie.Need-add-word
-add-word c = search needs
-
 word-requires : tie.Need-word-requires
 word-requires c κs =
     let k = c .before .before in
     let r = c .before .before .before .before .before .pre (sym (k .kind-of .ensures .0) ∙ c .before .if1 .taken) in
     omega (arith, r .0)
-
-slice-aggregate-put : tie.Need-slice-aggregate-put
-slice-aggregate-put c = search needs
 
 put-requires : tie.Need-put-requires
 put-requires c κs =
@@ -37,9 +25,6 @@ add-result c =
     let k = c .before .before .before .before .before .before .before .before in
     let r = c .before .before .before .before .before .before .before .before .before .before .before .pre (sym (k .kind-of .ensures .0) ∙ c .before .before .before .before .before .before .before .if1 .taken) in
     omega (arith, r .1)
-
-same-length : tie.Need-same-length
-same-length c = search needs
 
 returns : tie.Need-returns
 returns c =
@@ -56,13 +41,13 @@ pub put-unknown-spec : {M : Type 1} → statement M
 put-unknown-spec =
     tie.close
     (tie.spec
-    kind-of-requires
-    cast-word
-    add-word
+    (λ c κs. search needs)
+    (λ c. search needs)
+    (λ c. search needs)
     word-requires
-    slice-aggregate-put
+    (λ c. search needs)
     put-requires
     add-result
-    same-length
+    (λ c. search needs)
     returns
     returns-2)

@@ -13,29 +13,11 @@ returns c =
     let v = fine-value _ (c .before .before .pre .1) in
     sym (ap trailingOf (v .1) ∙ no-trailing _ _ _ _ _ (c .if1 .taken) (shape _ _ _ _ _ (v .1)))
 
-add-start : tie.Need-add-start
-add-start c = search needs
-
-cast-start : tie.Need-cast-start
-cast-start c = search needs
-
-mul-start : tie.Need-mul-start
-mul-start c = search needs
-
-add-start-2 : tie.Need-add-start-2
-add-start-2 c = search needs
-
 table-end-requires : tie.Need-table-end-requires
 table-end-requires c κs = ((search needs, search needs, header-as 2 _ _ _ (c .before .if1 .left) (c .before .before .before .pre .0 .2)), search needs)
 
 enum-told : tie.Need-enum-told
 enum-told c = search needs
-
-enum-known-end : tie.Need-enum-known-end
-enum-known-end c = search needs
-
-add-word : tie.Need-add-word
-add-word c = search needs
 
 word-requires : tie.Need-word-requires
 word-requires c κs =
@@ -85,14 +67,14 @@ trailing-of-spec =
     tie.close
     (tie.spec
     returns
-    add-start
-    cast-start
-    mul-start
-    add-start-2
+    (λ c. search needs)
+    (λ c. search needs)
+    (λ c. search needs)
+    (λ c. search needs)
     table-end-requires
     enum-told
-    enum-known-end
-    add-word
+    (λ c. search needs)
+    (λ c. search needs)
     word-requires
     cast-t15
     sub-t16

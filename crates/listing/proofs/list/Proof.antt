@@ -11,35 +11,11 @@ use borrow.Author.Needs.{needs}
 use Rattle.listing.proofs.list.Statement.{statement}
 use Rattle.listing.proofs.list.Tie as tie
 
-slice-aggregate-put : tie.Need-slice-aggregate-put
-slice-aggregate-put c = search needs
-
-put-requires : tie.Need-put-requires
-put-requires c κs = search needs
-
-same-length : tie.Need-same-length
-same-length c = search needs
-
 returns : tie.Need-returns
 returns c =
     let p = c .before .before in
     let o = p .before .before .before .before .before .before in
     (rw (too-long (o .args .bytes .now) (p .before .before .before .if1 .taken)) at (p .put .ensures), omega (arith, p .put .ensures .ends))
-
-slice-aggregate-read : tie.Need-slice-aggregate-read
-slice-aggregate-read c = search needs
-
-read-requires : tie.Need-read-requires
-read-requires c κs = search needs
-
-cast-put-refusal : tie.Need-cast-put-refusal
-cast-put-refusal c = search needs
-
-put-refusal-requires : tie.Need-put-refusal-requires
-put-refusal-requires c κs = search needs
-
-same-length-2 : tie.Need-same-length-2
-same-length-2 c = search needs
 
 returns-2 : tie.Need-returns-2
 returns-2 c =
@@ -58,16 +34,10 @@ accepted r z =
     let i = r .before .before in
     listed-accepted (i .before .before .before .args .bytes .now) (omega (arith, i .if1 .left)) (r .read .result) (r .read .ensures .answered) (r .read .last .1 .0) (r .read .ensures .kept) z
 
-slice-aggregate-put-accepted : tie.Need-slice-aggregate-put-accepted
-slice-aggregate-put-accepted c = search needs
-
 put-accepted-requires : tie.Need-put-accepted-requires
 put-accepted-requires c κs =
     let t = c .before .before in
     (accepted (t .before .before .before) (t .if2 .left) .0, search needs, search needs)
-
-same-length-3 : tie.Need-same-length-3
-same-length-3 c = search needs
 
 returns-3 : tie.Need-returns-3
 returns-3 c =
@@ -79,17 +49,17 @@ pub list-spec : {M : Type 1} → statement M
 list-spec =
     tie.close
     (tie.spec
-    slice-aggregate-put
-    put-requires
-    same-length
+    (λ c. search needs)
+    (λ c κs. search needs)
+    (λ c. search needs)
     returns
-    slice-aggregate-read
-    read-requires
-    cast-put-refusal
-    put-refusal-requires
-    same-length-2
+    (λ c. search needs)
+    (λ c κs. search needs)
+    (λ c. search needs)
+    (λ c κs. search needs)
+    (λ c. search needs)
     returns-2
-    slice-aggregate-put-accepted
+    (λ c. search needs)
     put-accepted-requires
-    same-length-3
+    (λ c. search needs)
     returns-3)

@@ -13,12 +13,6 @@ use native.Mathlib.Omega.{arith}
 use Rattle.lists.proofs.at_offset.Statement.{statement}
 use Rattle.lists.proofs.at_offset.Tie as tie
 
-slice-aggregate-find : tie.Need-slice-aggregate-find
-slice-aggregate-find c = search needs
-
-find-requires : tie.Need-find-requires
-find-requires c κs = search needs
-
 returns : tie.Need-returns
 returns c =
     let o = c .before .before .before in
@@ -27,4 +21,4 @@ returns c =
     ∙ ap found (position-same (has TEMPLATE-OFFSET (x ∷ [])) (λ t. eqb (wordOf TEMPLATE-OFFSET t) x) (o .args .words .now) (width TEMPLATES) _ _ _ (omega arith) (λ e l. has-one TEMPLATE-OFFSET x e (omega arith)))
 
 pub at-offset-spec : {M : Type 1} → statement M
-at-offset-spec = tie.close (tie.spec slice-aggregate-find find-requires returns)
+at-offset-spec = tie.close (tie.spec (λ c. search needs) (λ c κs. search needs) returns)

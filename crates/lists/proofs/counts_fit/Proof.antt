@@ -7,14 +7,8 @@ use native.Mathlib.Omega.{arith}
 use Rattle.lists.proofs.counts_fit.Statement.{statement}
 use Rattle.lists.proofs.counts_fit.Tie as tie
 
-room-requires : tie.Need-room-requires
-room-requires c κs = search needs
-
 enum-told : tie.Need-enum-told
 enum-told c = search needs
-
-enum-told-2 : tie.Need-enum-told-2
-enum-told-2 c = search needs
 
 returns : tie.Need-returns
 returns c =
@@ -27,4 +21,4 @@ returns-2 c =
     ap fine (sym (c .enum-told2 .given .1) ∙ c .before .before .room .ensures) ∙ room-fits rows (a .c) (a .capacities) (omega arith) (omega arith)
 
 pub counts-fit-spec : {M : Type 1} → statement M
-counts-fit-spec = tie.close (tie.spec room-requires enum-told enum-told-2 returns returns-2)
+counts-fit-spec = tie.close (tie.spec (λ c κs. search needs) enum-told (λ c. search needs) returns returns-2)

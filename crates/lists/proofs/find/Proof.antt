@@ -21,19 +21,10 @@ Inv-loop words row from key width at₀ left₀ number₀ at left number =
 abbrev μ-loop : tie.MeasureT-loop
 μ-loop words row from key width at₀ left₀ number₀ at left number = left
 
-width-of-requires : tie.Need-width-of-requires Inv-loop μ-loop
-width-of-requires c κs = search needs
-
-entry-at-requires : tie.Need-entry-at-requires Inv-loop μ-loop
-entry-at-requires c κs = search needs
-
 loop-holds : tie.Need-loop-holds Inv-loop μ-loop
 loop-holds c =
     let o = c .before .before .before .before in
     (rw (c .entry-at .ensures) (end (getD widths (o .args .row) 0) (o .args .words .now) _ _ _ (o .pre .1 .0)), omega arith, refl)
-
-add-same : tie.Need-add-same Inv-loop μ-loop
-add-same c = search needs
 
 same-requires : tie.Need-same-requires Inv-loop μ-loop
 same-requires c κs =
@@ -55,15 +46,6 @@ add-at c =
     let l = c .before .before .before in
     let o = l .before .before .before .before .before in
     omega (arith, more (getD widths (o .args .row) 0) (o .args .words .now) _ _ (c .before .before .loop-test .taken) (l .loop .inv .0), l .before .before .width-of .ensures)
-
-sub-left : tie.Need-sub-left Inv-loop μ-loop
-sub-left c = search needs
-
-add-number : tie.Need-add-number Inv-loop μ-loop
-add-number c = search needs
-
-loop-less : tie.Need-loop-less Inv-loop μ-loop
-loop-less c = search needs
 
 loop-again : tie.Need-loop-again Inv-loop μ-loop
 loop-again c =
@@ -87,15 +69,15 @@ find-spec =
     (tie.spec
     Inv-loop
     μ-loop
-    width-of-requires
-    entry-at-requires
+    (λ c κs. search needs)
+    (λ c κs. search needs)
     loop-holds
-    add-same
+    (λ c. search needs)
     same-requires
     returns
     add-at
-    sub-left
-    add-number
-    loop-less
+    (λ c. search needs)
+    (λ c. search needs)
+    (λ c. search needs)
     loop-again
     returns-2)

@@ -6,22 +6,10 @@ use borrow.Author.Needs.{needs}
 use Rattle.lists.proofs.fit.Statement.{statement}
 use Rattle.lists.proofs.fit.Tie as tie
 
-lent-enough-requires : tie.Need-lent-enough-requires
-lent-enough-requires c κs = search needs
-
-counts-fit-requires : tie.Need-counts-fit-requires
-counts-fit-requires c κs = search needs
-
-own-requires : tie.Need-own-requires
-own-requires c κs = search needs
-
 returns : tie.Need-returns
 returns c =
     let n = c .before .before in
     rw (c .own .ensures, sym (n .before .lent-enough .ensures) ∙ not-true _ (c .before .if1 .taken))
-
-own-requires-2 : tie.Need-own-requires-2
-own-requires-2 c κs = search needs
 
 returns-2 : tie.Need-returns-2
 returns-2 c =
@@ -37,10 +25,10 @@ pub fit-spec : {M : Type 1} → statement M
 fit-spec =
     tie.close
     (tie.spec
-    lent-enough-requires
-    counts-fit-requires
-    own-requires
+    (λ c κs. search needs)
+    (λ c κs. search needs)
+    (λ c κs. search needs)
     returns
-    own-requires-2
+    (λ c κs. search needs)
     returns-2
     returns-3)

@@ -7,12 +7,6 @@ use borrow.Author.Needs.{needs}
 use Rattle.lists.proofs.fit_together.Statement.{statement}
 use Rattle.lists.proofs.fit_together.Tie as tie
 
-fit-requires : tie.Need-fit-requires
-fit-requires c κs = search needs
-
-enum-known-r : tie.Need-enum-known-r
-enum-known-r c = search needs
-
 returns : tie.Need-returns
 returns c =
     let f = c .before .before .before in
@@ -36,9 +30,6 @@ returns-2 c =
     let h = fits (a .words .now) (a .capacities) (a .counts) (sym (f .fit .ensures) ∙ t .before .enum-told .given .1) in
     rw (h .0, h .1, sym (t .tables-fit .ensures) ∙ c .if1 .taken)
 
-own-requires : tie.Need-own-requires
-own-requires c κs = search needs
-
 returns-3 : tie.Need-returns-3
 returns-3 c =
     let t = c .before .before in
@@ -51,11 +42,11 @@ pub fit-together-spec : {M : Type 1} → statement M
 fit-together-spec =
     tie.close
     (tie.spec
-    fit-requires
-    enum-known-r
+    (λ c κs. search needs)
+    (λ c. search needs)
     returns
     enum-told
     tables-fit-requires
     returns-2
-    own-requires
+    (λ c κs. search needs)
     returns-3)

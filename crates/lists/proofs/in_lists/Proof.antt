@@ -4,9 +4,6 @@ use borrow.Author.Needs.{needs}
 use Rattle.lists.proofs.in_lists.Statement.{statement}
 use Rattle.lists.proofs.in_lists.Tie as tie
 
-array-read-if1 : tie.Need-array-read-if1
-array-read-if1 c = search needs
-
 returns : tie.Need-returns
 returns c = simp (le-ltb _ _ (c .if1 .taken))
 
@@ -16,21 +13,6 @@ returns-2 c = simp (lt-ltb _ _ (c .before .if1 .left), lt-leb _ _ (c .if2 .taken
 returns-3 : tie.Need-returns-3
 returns-3 c = simp (lt-ltb _ _ (c .before .before .if1 .left), le-leb _ _ (c .before .if2 .left), lt-leb _ _ (c .if3 .taken))
 
-row-of-requires : tie.Need-row-of-requires
-row-of-requires c κs = search needs
-
-add-result : tie.Need-add-result
-add-result c = search needs
-
-mul-result : tie.Need-mul-result
-mul-result c = search needs
-
-array-read-result : tie.Need-array-read-result
-array-read-result c = search needs
-
-cast-result : tie.Need-cast-result
-cast-result c = search needs
-
 returns-4 : tie.Need-returns-4
 returns-4 c = simp (lt-ltb _ _ (c .before .before .before .if1 .left), le-leb _ _ (c .before .before .if2 .left), le-leb _ _ (c .before .if3 .left), c .row-of .ensures .0)
 
@@ -38,13 +20,13 @@ pub in-lists-spec : {M : Type 1} → statement M
 in-lists-spec =
     tie.close
     (tie.spec
-    array-read-if1
+    (λ c. search needs)
     returns
     returns-2
     returns-3
-    row-of-requires
-    add-result
-    mul-result
-    array-read-result
-    cast-result
+    (λ c κs. search needs)
+    (λ c. search needs)
+    (λ c. search needs)
+    (λ c. search needs)
+    (λ c. search needs)
     returns-4)

@@ -14,26 +14,11 @@ use native.Mathlib.Omega.{arith}
 use Rattle.lists.proofs.owned.Statement.{statement}
 use Rattle.lists.proofs.owned.Tie as tie
 
-row-of-requires : tie.Need-row-of-requires
-row-of-requires c κs = search needs
-
-area-at-requires : tie.Need-area-at-requires
-area-at-requires c κs = search needs
-
-run-of-requires : tie.Need-run-of-requires
-run-of-requires c κs = search needs
-
-slice-aggregate-find : tie.Need-slice-aggregate-find
-slice-aggregate-find c = search needs
-
 find-requires : tie.Need-find-requires
 find-requires c κs =
     let r = c .before in
     let o = r .before .before .before .before in
     ((omega arith, omega arith), subst (λ r. few (width TABLES) r (o .args .words .now)) (sym (r .run-of .ensures)) (whole-few (o .args .words .now) (o .args .capacities) (o .args .counts) (o .pre .0) (place TABLES)))
-
-enum-known-n : tie.Need-enum-known-n
-enum-known-n c = search needs
 
 enum-told : tie.Need-enum-told
 enum-told c = search needs
@@ -78,12 +63,12 @@ pub owned-spec : {M : Type 1} → statement M
 owned-spec =
     tie.close
     (tie.spec
-    row-of-requires
-    area-at-requires
-    run-of-requires
-    slice-aggregate-find
+    (λ c κs. search needs)
+    (λ c κs. search needs)
+    (λ c κs. search needs)
+    (λ c. search needs)
     find-requires
-    enum-known-n
+    (λ c. search needs)
     enum-told
     returns
     entry-at-requires

@@ -4,21 +4,6 @@ use borrow.Author.Needs.{needs}
 use Rattle.lists.proofs.table_fits.Statement.{statement}
 use Rattle.lists.proofs.table_fits.Tie as tie
 
-table-word-requires : tie.Need-table-word-requires
-table-word-requires c κs = search needs
-
-table-word-requires-2 : tie.Need-table-word-requires-2
-table-word-requires-2 c κs = search needs
-
-table-word-requires-3 : tie.Need-table-word-requires-3
-table-word-requires-3 c κs = search needs
-
-table-word-requires-4 : tie.Need-table-word-requires-4
-table-word-requires-4 c κs = search needs
-
-in-lists-requires : tie.Need-in-lists-requires
-in-lists-requires c κs = search needs
-
 returns : tie.Need-returns
 returns c =
     let w = c .before in
@@ -28,9 +13,9 @@ pub table-fits-spec : {M : Type 1} → statement M
 table-fits-spec =
     tie.close
     (tie.spec
-    table-word-requires
-    table-word-requires-2
-    table-word-requires-3
-    table-word-requires-4
-    in-lists-requires
+    (λ c κs. search needs)
+    (λ c κs. search needs)
+    (λ c κs. search needs)
+    (λ c κs. search needs)
+    (λ c κs. search needs)
     returns)

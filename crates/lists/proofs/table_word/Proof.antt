@@ -7,19 +7,10 @@ use native.Mathlib.Omega.{arith}
 use Rattle.lists.proofs.table_word.Statement.{statement}
 use Rattle.lists.proofs.table_word.Tie as tie
 
-add-result : tie.Need-add-result
-add-result c = search needs
-
-mul-result : tie.Need-mul-result
-mul-result c = search needs
-
-shared-slice-read-result : tie.Need-shared-slice-read-result
-shared-slice-read-result c = search needs
-
 returns : tie.Need-returns
 returns c =
     let o = c .before in
     sym (word-at (width TABLES) (o .args .words .now) (o .args .i) (o .args .at) (omega arith))
 
 pub table-word-spec : {M : Type 1} → statement M
-table-word-spec = tie.close (tie.spec add-result mul-result shared-slice-read-result returns)
+table-word-spec = tie.close (tie.spec (λ c. search needs) (λ c. search needs) (λ c. search needs) returns)

@@ -19,19 +19,10 @@ Inv-loop words counts at₀ left₀ at left =
 abbrev μ-loop : tie.MeasureT-loop
 μ-loop words counts at₀ left₀ at left = left
 
-area-at-requires : tie.Need-area-at-requires Inv-loop μ-loop
-area-at-requires c κs = search needs
-
-array-read-left : tie.Need-array-read-left Inv-loop μ-loop
-array-read-left c = search needs
-
 loop-holds : tie.Need-loop-holds Inv-loop μ-loop
 loop-holds c =
     let o = c .before .before in
     (omega (arith, c .area-at .ensures .0, inside (o .args .words .now) (o .args .capacities) (o .args .t3) (o .pre) (place TABLES) .0), refl)
-
-table-fits-requires : tie.Need-table-fits-requires Inv-loop μ-loop
-table-fits-requires c κs = search needs
 
 returns : tie.Need-returns Inv-loop μ-loop
 returns c =
@@ -41,15 +32,6 @@ returns c =
     (ap (λ at. tablesFit (a .t3) (entriesFrom (width TABLES) (getD (a .t3) (place TABLES) 0) at (a .words .now))) (sym (l .before .area-at .ensures .0))
     ∙ l .loop .inv .1
     ∙ tables-unfit (a .words .now) (a .t3) _ _ (c .before .before .loop-test .taken) (sym (c .before .table-fits .ensures) ∙ not-true _ (c .if1 .taken)))
-
-add-at : tie.Need-add-at Inv-loop μ-loop
-add-at c = search needs
-
-sub-left : tie.Need-sub-left Inv-loop μ-loop
-sub-left c = search needs
-
-loop-less : tie.Need-loop-less Inv-loop μ-loop
-loop-less c = search needs
 
 loop-again : tie.Need-loop-again Inv-loop μ-loop
 loop-again c =
@@ -72,13 +54,13 @@ tables-fit-spec =
     (tie.spec
     Inv-loop
     μ-loop
-    area-at-requires
-    array-read-left
+    (λ c κs. search needs)
+    (λ c. search needs)
     loop-holds
-    table-fits-requires
+    (λ c κs. search needs)
     returns
-    add-at
-    sub-left
-    loop-less
+    (λ c. search needs)
+    (λ c. search needs)
+    (λ c. search needs)
     loop-again
     returns-2)

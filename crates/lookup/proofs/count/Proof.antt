@@ -22,12 +22,6 @@ abbrev μ-loop : tie.MeasureT-loop
 loop-holds : tie.Need-loop-holds Inv-loop μ-loop
 loop-holds c = (search needs, search needs, search needs)
 
-next-new-requires : tie.Need-next-new-requires Inv-loop μ-loop
-next-new-requires c κs = search needs
-
-enum-known-behind : tie.Need-enum-known-behind Inv-loop μ-loop
-enum-known-behind c = search needs
-
 enum-told : tie.Need-enum-told Inv-loop μ-loop
 enum-told c = search needs
 
@@ -38,9 +32,6 @@ returns c =
     let a = l .before .before .before .args in
     let e = x .next-new .ensures .0 ∙ ap (told (a .words .now) (a .list) (a .templates) (a .key .now) _) (c .enum-told .given .1) in
     omega (arith, l .loop .inv .2, ap length e, x .before .before .loop-test .taken)
-
-add-n : tie.Need-add-n Inv-loop μ-loop
-add-n c = search needs
 
 loop-less : tie.Need-loop-less Inv-loop μ-loop
 loop-less c =
@@ -67,11 +58,11 @@ count-spec =
     Inv-loop
     μ-loop
     loop-holds
-    next-new-requires
-    enum-known-behind
+    (λ c κs. search needs)
+    (λ c. search needs)
     enum-told
     returns
-    add-n
+    (λ c. search needs)
     loop-less
     loop-again
     returns-2)

@@ -26,12 +26,6 @@ abbrev μ-loop : tie.MeasureT-loop
 loop-holds : tie.Need-loop-holds Inv-loop μ-loop
 loop-holds c = (c .before .before .before .pre .0 .0, refl, omega (arith, c .before .before .before .pre .1 .1), refl)
 
-next-new-requires : tie.Need-next-new-requires Inv-loop μ-loop
-next-new-requires c κs = search needs
-
-enum-known-n : tie.Need-enum-known-n Inv-loop μ-loop
-enum-known-n c = search needs
-
 enum-told : tie.Need-enum-told Inv-loop μ-loop
 enum-told c = search needs
 
@@ -107,8 +101,8 @@ fill-spec =
     Inv-loop
     μ-loop
     loop-holds
-    next-new-requires
-    enum-known-n
+    (λ c κs. search needs)
+    (λ c. search needs)
     enum-told
     same-length
     returns

@@ -10,9 +10,6 @@ use native.Mathlib.Omega.{arith}
 use Rattle.lookup.proofs.fresh.Statement.{statement}
 use Rattle.lookup.proofs.fresh.Tie as tie
 
-same-requires : tie.Need-same-requires
-same-requires c κs = search needs
-
 returns : tie.Need-returns
 returns c =
     let s = c .before in
@@ -20,27 +17,12 @@ returns c =
     let a = o .args in
     sym (ap (λ ns. unmarked (a .marks .now) (found ns)) (number-other (a .words .now) (a .templates) (a .key .now) (a .at) (o .pre .0 .1) (sym (s .same .ensures) ∙ not-true _ (c .if1 .taken))))
 
-add-offset : tie.Need-add-offset
-add-offset c = search needs
-
-mul-offset : tie.Need-mul-offset
-mul-offset c = search needs
-
-shared-slice-read-offset : tie.Need-shared-slice-read-offset
-shared-slice-read-offset c = search needs
-
 returns-2 : tie.Need-returns-2
 returns-2 c =
     let i = c .before .before in
     let o = i .before .before .before .before in
     let a = o .args in
     sym (ap (λ ns. unmarked (a .marks .now) (found ns)) (number-none (a .words .now) (a .templates) (a .key .now) (a .at) (o .pre .0 .1) (sym (i .before .same .ensures) ∙ not-false _ (i .if1 .left)) (c .if2 .taken)))
-
-at-offset-requires : tie.Need-at-offset-requires
-at-offset-requires c κs = search needs
-
-enum-known-n : tie.Need-enum-known-n
-enum-known-n c = search needs
 
 enum-told : tie.Need-enum-told
 enum-told c = search needs
@@ -53,9 +35,6 @@ returns-3 c =
     let a = o .args in
     let e = number-some (a .words .now) (a .templates) (a .key .now) (a .at) (o .pre .0 .1) (sym (i .before .same .ensures) ∙ not-false _ (i .if1 .left)) (t .before .if2 .left) in
     sym (ap (λ ns. unmarked (a .marks .now) (found ns)) e ∙ ap (unmarked (a .marks .now)) (sym (t .at-offset .ensures) ∙ c .enum-told .given .1))
-
-cast-if3 : tie.Need-cast-if3
-cast-if3 c = search needs
 
 element-copy-out-if3 : tie.Need-element-copy-out-if3
 element-copy-out-if3 c =
@@ -90,17 +69,17 @@ pub fresh-spec : {M : Type 1} → statement M
 fresh-spec =
     tie.close
     (tie.spec
-    same-requires
+    (λ c κs. search needs)
     returns
-    add-offset
-    mul-offset
-    shared-slice-read-offset
+    (λ c. search needs)
+    (λ c. search needs)
+    (λ c. search needs)
     returns-2
-    at-offset-requires
-    enum-known-n
+    (λ c κs. search needs)
+    (λ c. search needs)
     enum-told
     returns-3
-    cast-if3
+    (λ c. search needs)
     element-copy-out-if3
     returns-4
     returns-5)

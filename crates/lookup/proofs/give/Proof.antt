@@ -12,21 +12,6 @@ use native.Mathlib.Omega.{arith}
 use Rattle.lookup.proofs.give.Statement.{statement}
 use Rattle.lookup.proofs.give.Tie as tie
 
-owned-requires : tie.Need-owned-requires
-owned-requires c κs = search needs
-
-owned-requires-2 : tie.Need-owned-requires-2
-owned-requires-2 c κs = search needs
-
-run-of-requires : tie.Need-run-of-requires
-run-of-requires c κs = search needs
-
-cast-capacity : tie.Need-cast-capacity
-cast-capacity c = search needs
-
-slice-aggregate-count : tie.Need-slice-aggregate-count
-slice-aggregate-count c = search needs
-
 count-requires : tie.Need-count-requires
 count-requires c κs =
     let l = c .before in
@@ -35,9 +20,6 @@ count-requires c κs =
     let o = e .before .before .before in
     let a = o .args in
     ((subst (λ r. few (width EVENTS) r (a .words .now)) (sym (e .owned .ensures)) (events-in (a .words .now) (a .capacities) (a .counts) (o .pre .0 .0) (o .pre .0 .1) _), omega arith, o .pre .1), part-in (a .words .now) (a .capacities) (a .counts) (o .pre .0 .0) (o .pre .0 .1) _ _ _ (l .run-of .ensures) (t .owned2 .ensures))
-
-cast-t18 : tie.Need-cast-t18
-cast-t18 c = search needs
 
 returns : tie.Need-returns
 returns c =
@@ -50,9 +32,6 @@ returns c =
     let x = ap (roomFor (a .guids .now)) (sym (owned-given (a .words .now) (a .capacities) (a .counts) (a .provider) (a .k) _ _ _ (l .run-of .ensures) (t .owned2 .ensures) (e .owned .ensures))) ∙ give-short (a .words .now) (l .run-of .result) (t .owned2 .result) (keyWords (a .k)) (e .owned .result) (a .guids .now) _ (n .count .ensures) (c .if1 .taken) in
     (ap guidsFound (sym x), ap (guidsHeld (a .guids .now)) (sym x))
 
-slice-aggregate-fill : tie.Need-slice-aggregate-fill
-slice-aggregate-fill c = search needs
-
 fill-requires : tie.Need-fill-requires
 fill-requires c κs =
     let i = c .before .before in
@@ -62,9 +41,6 @@ fill-requires c κs =
     let o = e .before .before .before in
     let a = o .args in
     ((subst (λ r. few (width EVENTS) r (a .words .now)) (sym (e .owned .ensures)) (events-in (a .words .now) (a .capacities) (a .counts) (o .pre .0 .0) (o .pre .0 .1) _), omega arith), (part-in (a .words .now) (a .capacities) (a .counts) (o .pre .0 .0) (o .pre .0 .1) _ _ _ (l .run-of .ensures) (t .owned2 .ensures), give-all (a .words .now) (l .run-of .result) (t .owned2 .result) (keyWords (a .k)) (e .owned .result) (a .guids .now) _ (i .before .count .ensures) (i .if1 .left) .2))
-
-same-length : tie.Need-same-length
-same-length c = search needs
 
 returns-2 : tie.Need-returns-2
 returns-2 c =
@@ -85,15 +61,15 @@ pub give-spec : {M : Type 1} → statement M
 give-spec =
     tie.close
     (tie.spec
-    owned-requires
-    owned-requires-2
-    run-of-requires
-    cast-capacity
-    slice-aggregate-count
+    (λ c κs. search needs)
+    (λ c κs. search needs)
+    (λ c κs. search needs)
+    (λ c. search needs)
+    (λ c. search needs)
     count-requires
-    cast-t18
+    (λ c. search needs)
     returns
-    slice-aggregate-fill
+    (λ c. search needs)
     fill-requires
-    same-length
+    (λ c. search needs)
     returns-2)

@@ -8,27 +8,6 @@ use native.Mathlib.Omega.{arith}
 use Rattle.lookup.proofs.guid_of.Statement.{statement}
 use Rattle.lookup.proofs.guid_of.Tie as tie
 
-entry-at-requires : tie.Need-entry-at-requires
-entry-at-requires c κs = search needs
-
-add-from : tie.Need-add-from
-add-from c = search needs
-
-add-to : tie.Need-add-to
-add-to c = search needs
-
-mul-result : tie.Need-mul-result
-mul-result c = search needs
-
-sub-result : tie.Need-sub-result
-sub-result c = search needs
-
-part-result-start : tie.Need-part-result-start
-part-result-start c = search needs
-
-part-result-end : tie.Need-part-result-end
-part-result-end c = search needs
-
 returns : tie.Need-returns
 returns c =
     let n = c .before in
@@ -40,11 +19,11 @@ pub guid-of-spec : {M : Type 1} → statement M
 guid-of-spec =
     tie.close
     (tie.spec
-    entry-at-requires
-    add-from
-    add-to
-    mul-result
-    sub-result
-    part-result-start
-    part-result-end
+    (λ c κs. search needs)
+    (λ c. search needs)
+    (λ c. search needs)
+    (λ c. search needs)
+    (λ c. search needs)
+    (λ c. search needs)
+    (λ c. search needs)
     returns)

@@ -5,9 +5,6 @@ use borrow.Author.Needs.{needs}
 use Rattle.lookup.proofs.shown.Statement.{statement}
 use Rattle.lookup.proofs.shown.Tie as tie
 
-enum-known-f : tie.Need-enum-known-f
-enum-known-f c = search needs
-
 enum-told : tie.Need-enum-told
 enum-told c = search needs
 
@@ -18,4 +15,4 @@ returns-2 : tie.Need-returns-2
 returns-2 c = ap shown (sym (c .enum-told .given .1))
 
 pub shown-spec : {M : Type 1} → statement M
-shown-spec = tie.close (tie.spec enum-known-f enum-told returns returns-2)
+shown-spec = tie.close (tie.spec (λ c. search needs) enum-told returns returns-2)

@@ -11,12 +11,6 @@ use native.Mathlib.Omega.{arith}
 use Rattle.lookup.proofs.template_at.Statement.{statement}
 use Rattle.lookup.proofs.template_at.Tie as tie
 
-fit-requires : tie.Need-fit-requires
-fit-requires c κs = search needs
-
-enum-known-r : tie.Need-enum-known-r
-enum-known-r c = search needs
-
 returns : tie.Need-returns
 returns c =
     let f = c .before .before .before in
@@ -25,18 +19,6 @@ returns c =
 
 enum-told : tie.Need-enum-told
 enum-told c = search needs
-
-array-read-if1 : tie.Need-array-read-if1
-array-read-if1 c = search needs
-
-cast-if1 : tie.Need-cast-if1
-cast-if1 c = search needs
-
-add-if1 : tie.Need-add-if1
-add-if1 c = search needs
-
-own-requires : tie.Need-own-requires
-own-requires c κs = search needs
 
 returns-2 : tie.Need-returns-2
 returns-2 c =
@@ -48,18 +30,12 @@ returns-2 c =
           ∙ sym (offset-past (a .words .now) (a .capacities) (a .t3) _ _ _ (fits (a .words .now) (a .capacities) (a .t3) (sym (f .fit .ensures) ∙ e .enum-told .given .1)) (c .before .if1 .taken));
     }
 
-area-at-requires : tie.Need-area-at-requires
-area-at-requires c κs = search needs
-
 at-offset-requires : tie.Need-at-offset-requires
 at-offset-requires c κs =
     let e = c .before .before in
     let f = e .before .before in
     let a = f .before .before .args in
     omega (arith, c .area-at .ensures .0, c .before .if1 .left, inside (a .words .now) (a .capacities) (a .t3) (fits (a .words .now) (a .capacities) (a .t3) (sym (f .fit .ensures) ∙ e .enum-told .given .1)) (place TEMPLATES))
-
-shown-requires : tie.Need-shown-requires
-shown-requires c κs = search needs
 
 returns-3 : tie.Need-returns-3
 returns-3 c =
@@ -78,16 +54,16 @@ pub template-at-spec : {M : Type 1} → statement M
 template-at-spec =
     tie.close
     (tie.spec
-    fit-requires
-    enum-known-r
+    (λ c κs. search needs)
+    (λ c. search needs)
     returns
     enum-told
-    array-read-if1
-    cast-if1
-    add-if1
-    own-requires
+    (λ c. search needs)
+    (λ c. search needs)
+    (λ c. search needs)
+    (λ c κs. search needs)
     returns-2
-    area-at-requires
+    (λ c κs. search needs)
     at-offset-requires
-    shown-requires
+    (λ c κs. search needs)
     returns-3)

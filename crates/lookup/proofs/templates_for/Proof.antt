@@ -12,22 +12,10 @@ use native.Mathlib.Omega.{arith}
 use Rattle.lookup.proofs.templates_for.Statement.{statement}
 use Rattle.lookup.proofs.templates_for.Tie as tie
 
-cast-if1 : tie.Need-cast-if1
-cast-if1 c = search needs
-
-own-requires : tie.Need-own-requires
-own-requires c κs = search needs
-
 returns : tie.Need-returns
 returns c =
     let a = c .before .before .before .before .args in
     (let x = refusal-keeps (a .guids .now) _ _ _ (c .own .ensures) (key-wide (a .words .now) (a .capacities) (a .counts) (a .key) (a .guids .now) (c .before .if1 .taken)) in record { answered = x .0; kept = x .1 })
-
-fit-together-requires : tie.Need-fit-together-requires
-fit-together-requires c κs = search needs
-
-enum-known-r : tie.Need-enum-known-r
-enum-known-r c = search needs
 
 returns-2 : tie.Need-returns-2
 returns-2 c =
@@ -38,12 +26,6 @@ returns-2 c =
 enum-told : tie.Need-enum-told
 enum-told c = search needs
 
-run-of-requires : tie.Need-run-of-requires
-run-of-requires c κs = search needs
-
-slice-aggregate-find : tie.Need-slice-aggregate-find
-slice-aggregate-find c = search needs
-
 find-requires : tie.Need-find-requires
 find-requires c κs =
     let e = c .before .before .before in
@@ -51,12 +33,6 @@ find-requires c κs =
     let a = v .before .before .before .before .args in
     let t = fits-together (a .words .now) (a .capacities) (a .counts) (sym (v .fit-together .ensures) ∙ e .enum-told .given .1) in
     ((omega arith, omega arith), subst (λ r. few (width PROVIDERS) r (a .words .now)) (sym (c .before .run-of .ensures)) (whole-few (a .words .now) (a .capacities) (a .counts) (t .0) (place PROVIDERS)))
-
-enum-known-provider : tie.Need-enum-known-provider
-enum-known-provider c = search needs
-
-enum-told-2 : tie.Need-enum-told-2
-enum-told-2 c = search needs
 
 returns-3 : tie.Need-returns-3
 returns-3 c =
@@ -76,9 +52,6 @@ give-requires c κs =
     let t = fits-together (a .words .now) (a .capacities) (a .counts) (sym (v .fit-together .ensures) ∙ e .enum-told .given .1) in
     (t, v .before .if1 .left)
 
-same-length : tie.Need-same-length
-same-length c = search needs
-
 returns-4 : tie.Need-returns-4
 returns-4 c =
     let u = c .before .before in
@@ -95,19 +68,19 @@ pub templates-for-spec : {M : Type 1} → statement M
 templates-for-spec =
     tie.close
     (tie.spec
-    cast-if1
-    own-requires
+    (λ c. search needs)
+    (λ c κs. search needs)
     returns
-    fit-together-requires
-    enum-known-r
+    (λ c κs. search needs)
+    (λ c. search needs)
     returns-2
     enum-told
-    run-of-requires
-    slice-aggregate-find
+    (λ c κs. search needs)
+    (λ c. search needs)
     find-requires
-    enum-known-provider
-    enum-told-2
+    (λ c. search needs)
+    (λ c. search needs)
     returns-3
     give-requires
-    same-length
+    (λ c. search needs)
     returns-4)

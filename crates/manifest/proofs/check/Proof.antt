@@ -25,20 +25,11 @@ Inv-loop b n p₀ counts₀ p counts =
 abbrev μ-loop : tie.MeasureT-loop
 μ-loop b n p₀ counts₀ p counts = p .left
 
-first-requires : tie.Need-first-requires Inv-loop μ-loop
-first-requires c κs = search needs
-
 loop-holds : tie.Need-loop-holds Inv-loop μ-loop
 loop-holds c = rw (c .first .ensures .0, c .first .ensures .1) (search needs, search needs, refl)
 
 check-requires : tie.Need-check-requires Inv-loop μ-loop
 check-requires c κs = let i = c .before .before .loop .inv in (omega (arith, c .if1 .taken, i .0), c .before .before .before .before .before .pre .1, i .1)
-
-enum-known-verdict : tie.Need-enum-known-verdict Inv-loop μ-loop
-enum-known-verdict c = search needs
-
-refused-requires : tie.Need-refused-requires Inv-loop μ-loop
-refused-requires c κs = search needs
 
 returns : tie.Need-returns Inv-loop μ-loop
 returns c =
@@ -78,11 +69,11 @@ check-spec =
     (tie.spec
     Inv-loop
     μ-loop
-    first-requires
+    (λ c κs. search needs)
     loop-holds
     check-requires
-    enum-known-verdict
-    refused-requires
+    (λ c. search needs)
+    (λ c κs. search needs)
     returns
     enum-told
     next-requires

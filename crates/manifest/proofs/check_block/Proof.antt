@@ -13,30 +13,12 @@ use borrow.Author.Needs.{needs}
 use Rattle.manifest.proofs.check_block.Statement.{statement}
 use Rattle.manifest.proofs.check_block.Tie as tie
 
-cast-bytes : tie.Need-cast-bytes
-cast-bytes c = search needs
-
-mul-bytes : tie.Need-mul-bytes
-mul-bytes c = search needs
-
-sub-if1 : tie.Need-sub-if1
-sub-if1 c = search needs
-
-truncated-requires : tie.Need-truncated-requires
-truncated-requires c κs = search needs
-
-refused-requires : tie.Need-refused-requires
-refused-requires c κs = search needs
-
 returns : tie.Need-returns
 returns c =
     let i = c .before .before in
     let o = c .before .before .before .before .before in
     let x = array-cut (o .args .h) (o .args .b .now) (omega (arith, i .if1 .taken, o .pre .0)) in
     c .refused .ensures ∙ ap (λ (r : Refusal). record { verdict = verdicts.Refused r; counts = none }) (c .before .truncated .ensures) ∙ sym (ap (providersRead none) x)
-
-check-requires : tie.Need-check-requires
-check-requires c κs = search needs
 
 returns-2 : tie.Need-returns-2
 returns-2 c =
@@ -49,11 +31,11 @@ pub check-block-spec : {M : Type 1} → statement M
 check-block-spec =
     tie.close
     (tie.spec
-    cast-bytes
-    mul-bytes
-    sub-if1
-    truncated-requires
-    refused-requires
+    (λ c. search needs)
+    (λ c. search needs)
+    (λ c. search needs)
+    (λ c κs. search needs)
+    (λ c κs. search needs)
     returns
-    check-requires
+    (λ c κs. search needs)
     returns-2)

@@ -12,31 +12,10 @@ use borrow.Author.Needs.{needs}
 use Rattle.manifest.proofs.needs.Statement.{statement}
 use Rattle.manifest.proofs.needs.Tie as tie
 
-own-requires : tie.Need-own-requires
-own-requires c κs = search needs
-
-refuse-requires : tie.Need-refuse-requires
-refuse-requires c κs = search needs
-
 returns : tie.Need-returns
 returns c =
     let x = block-long (c .before .before .before .before .args .bytes .now) (c .before .before .if1 .taken) in
     record { answered = c .refuse .ensures ∙ ap (λ r. answer (refused r)) (c .before .own .ensures) ∙ sym (needs-refused _) ∙ ap needing (sym x) }
-
-header-requires : tie.Need-header-requires
-header-requires c κs = search needs
-
-enum-known-r : tie.Need-enum-known-r
-enum-known-r c = search needs
-
-refuse-requires-2 : tie.Need-refuse-requires-2
-refuse-requires-2 c κs = search needs
-
-enum-known-h : tie.Need-enum-known-h
-enum-known-h c = search needs
-
-cast-size : tie.Need-cast-size
-cast-size c = search needs
 
 slice-aggregate-needs-block : tie.Need-slice-aggregate-needs-block
 slice-aggregate-needs-block c =
@@ -74,14 +53,14 @@ pub needs-spec : {M : Type 1} → statement M
 needs-spec =
     tie.close
     (tie.spec
-    own-requires
-    refuse-requires
+    (λ c κs. search needs)
+    (λ c κs. search needs)
     returns
-    header-requires
-    enum-known-r
-    refuse-requires-2
-    enum-known-h
-    cast-size
+    (λ c κs. search needs)
+    (λ c. search needs)
+    (λ c κs. search needs)
+    (λ c. search needs)
+    (λ c. search needs)
     slice-aggregate-needs-block
     needs-block-requires
     returns-2

@@ -13,15 +13,6 @@ use borrow.Author.Needs.{needs}
 use Rattle.manifest.proofs.needs_block.Statement.{statement}
 use Rattle.manifest.proofs.needs_block.Tie as tie
 
-check-block-requires : tie.Need-check-block-requires
-check-block-requires c κs = search needs
-
-enum-known-verdict : tie.Need-enum-known-verdict
-enum-known-verdict c = search needs
-
-refuse-requires : tie.Need-refuse-requires
-refuse-requires c κs = search needs
-
 returns : tie.Need-returns
 unfolding needing answer
 returns c =
@@ -33,9 +24,6 @@ returns c =
 
 enum-told : tie.Need-enum-told
 enum-told c = search needs
-
-accept-requires : tie.Need-accept-requires
-accept-requires c κs = search needs
 
 returns-2 : tie.Need-returns-2
 unfolding needing answer
@@ -50,10 +38,10 @@ pub needs-block-spec : {M : Type 1} → statement M
 needs-block-spec =
     tie.close
     (tie.spec
-    check-block-requires
-    enum-known-verdict
-    refuse-requires
+    (λ c κs. search needs)
+    (λ c. search needs)
+    (λ c κs. search needs)
     returns
     enum-told
-    accept-requires
+    (λ c κs. search needs)
     returns-2)

@@ -12,27 +12,12 @@ use borrow.Author.Needs.{needs}
 use Rattle.manifest.proofs.read.Statement.{statement}
 use Rattle.manifest.proofs.read.Tie as tie
 
-own-requires : tie.Need-own-requires
-own-requires c κs = search needs
-
-refuse-requires : tie.Need-refuse-requires
-refuse-requires c κs = search needs
-
 returns : tie.Need-returns
 unfolding held
 returns c =
     let o = c .before .before .before .before .before in
     let x = too-long (o .args .bytes .now) (o .args .words .now) (o .args .capacities) (c .before .before .if1 .taken) in
     record { answered = c .refuse .ensures ∙ ap (λ r. answer (refused r)) (c .before .own .ensures) ∙ ap answer (sym x); kept = sym (ap (held _ _) x) }
-
-lent-enough-requires : tie.Need-lent-enough-requires
-lent-enough-requires c κs = search needs
-
-own-requires-2 : tie.Need-own-requires-2
-own-requires-2 c κs = search needs
-
-refuse-requires-2 : tie.Need-refuse-requires-2
-refuse-requires-2 c κs = search needs
 
 returns-2 : tie.Need-returns-2
 unfolding held
@@ -41,21 +26,6 @@ returns-2 c =
     let o = c .before .before .before .before .before .before .before in
     let x = unlent (o .args .bytes .now) (o .args .words .now) (o .args .capacities) (omega (arith, l .before .if1 .left)) (sym (l .lent-enough .ensures) ∙ not-true _ (c .before .before .if2 .taken)) in
     record { answered = c .refuse2 .ensures ∙ ap (λ r. answer (refused r)) (c .before .own2 .ensures) ∙ ap answer (sym x); kept = sym (ap (held _ _) x) }
-
-header-requires : tie.Need-header-requires
-header-requires c κs = search needs
-
-enum-known-r : tie.Need-enum-known-r
-enum-known-r c = search needs
-
-refuse-requires-3 : tie.Need-refuse-requires-3
-refuse-requires-3 c κs = search needs
-
-enum-known-h : tie.Need-enum-known-h
-enum-known-h c = search needs
-
-cast-size : tie.Need-cast-size
-cast-size c = search needs
 
 slice-aggregate-read-block : tie.Need-slice-aggregate-read-block
 slice-aggregate-read-block c =
@@ -89,9 +59,6 @@ returns-3 c =
     let x = no-header (o .args .bytes .now) (o .args .words .now) (o .args .capacities) (omega (arith, l .before .if1 .left)) (sym (l .lent-enough .ensures) ∙ not-false _ (n .if2 .left)) _ (no-header-read (run header (o .args .bytes .now)) _ (sym (d .r .given .1) ∙ k .header .ensures)) in
     record { answered = c .refuse3 .ensures ∙ ap answer (sym x); kept = sym (ap (held _ _) x) }
 
-same-length : tie.Need-same-length
-same-length c = search needs
-
 returns-4 : tie.Need-returns-4
 returns-4 c =
     let b = c .before .before in
@@ -107,20 +74,20 @@ pub read-spec : {M : Type 1} → statement M
 read-spec =
     tie.close
     (tie.spec
-    own-requires
-    refuse-requires
+    (λ c κs. search needs)
+    (λ c κs. search needs)
     returns
-    lent-enough-requires
-    own-requires-2
-    refuse-requires-2
+    (λ c κs. search needs)
+    (λ c κs. search needs)
+    (λ c κs. search needs)
     returns-2
-    header-requires
-    enum-known-r
-    refuse-requires-3
-    enum-known-h
-    cast-size
+    (λ c κs. search needs)
+    (λ c. search needs)
+    (λ c κs. search needs)
+    (λ c. search needs)
+    (λ c. search needs)
     slice-aggregate-read-block
     read-block-requires
     returns-3
-    same-length
+    (λ c. search needs)
     returns-4)

@@ -12,15 +12,6 @@ use borrow.Author.Needs.{needs}
 use Rattle.manifest.proofs.read_block.Statement.{statement}
 use Rattle.manifest.proofs.read_block.Tie as tie
 
-check-block-requires : tie.Need-check-block-requires
-check-block-requires c κs = search needs
-
-enum-known-verdict : tie.Need-enum-known-verdict
-enum-known-verdict c = search needs
-
-refuse-requires : tie.Need-refuse-requires
-refuse-requires c κs = search needs
-
 returns : tie.Need-returns
 unfolding held
 returns c =
@@ -41,21 +32,15 @@ store-requires c κs =
     let y = array-done (o .args .h) (o .args .b .now) (x .0) (x .1) in
     ((y .0, o .pre .1), (ap verdict (y .1), (x .2 ∙ ap (λ z. needsAll none (values z)) (sym (y .1)), o .pre .2)))
 
-same-length : tie.Need-same-length
-same-length c = search needs
-
-returns-2 : tie.Need-returns-2
-returns-2 c = search needs
-
 pub read-block-spec : {M : Type 1} → statement M
 read-block-spec =
     tie.close
     (tie.spec
-    check-block-requires
-    enum-known-verdict
-    refuse-requires
+    (λ c κs. search needs)
+    (λ c. search needs)
+    (λ c κs. search needs)
     returns
     enum-told
     store-requires
-    same-length
-    returns-2)
+    (λ c. search needs)
+    (λ c. search needs))

@@ -12,15 +12,6 @@ use borrow.Author.Needs.{needs}
 use Rattle.manifest.proofs.store.Statement.{statement}
 use Rattle.manifest.proofs.store.Tie as tie
 
-room-requires : tie.Need-room-requires
-room-requires c κs = search needs
-
-enum-known-r : tie.Need-enum-known-r
-enum-known-r c = search needs
-
-refuse-requires : tie.Need-refuse-requires
-refuse-requires c κs = search needs
-
 enum-told : tie.Need-enum-told
 enum-told c = search needs
 
@@ -32,9 +23,6 @@ fill-areas-requires c κs =
     let each-row : length (o .args .capacities) ≡ AREAS = o .good .1 .1 .1 .1 .0 .1 .0 .1 in
     (o .pre .0, (o .pre .1 .0, (o .pre .1 .1, store-roomy (o .args .h) (o .args .b .now) (o .args .capacities) (o .args .needs) each-row (o .pre .0 .0) (o .pre .1 .0) (o .pre .1 .1 .0) (lent-both (o .args .capacities) (o .args .words .now) (o .pre .1 .1 .1) .0) (sym (k .enum-told .given .1) ∙ p .room .ensures))))
 
-accept-requires : tie.Need-accept-requires
-accept-requires c κs = search needs
-
 returns : tie.Need-returns
 unfolding held
 returns c =
@@ -44,9 +32,6 @@ returns c =
     let each-row : length (o .args .capacities) ≡ AREAS = o .good .1 .1 .1 .1 .0 .1 .0 .1 in
     let x = store-refused (o .args .h) (o .args .b .now) (o .args .capacities) (o .args .needs) each-row (o .pre .0 .0) (o .pre .1 .0) (o .pre .1 .1 .0) (lent-both (o .args .capacities) (o .args .words .now) (o .pre .1 .1 .1) .0) _ (sym (k .r .given .1) ∙ p .room .ensures) in
     (c .refuse .ensures ∙ ap answer (sym x), sym (ap (held _ _) x))
-
-same-length : tie.Need-same-length
-same-length c = search needs
 
 returns-2 : tie.Need-returns-2
 unfolding answer held
@@ -65,12 +50,12 @@ pub store-spec : {M : Type 1} → statement M
 store-spec =
     tie.close
     (tie.spec
-    room-requires
-    enum-known-r
-    refuse-requires
+    (λ c κs. search needs)
+    (λ c. search needs)
+    (λ c κs. search needs)
     enum-told
     fill-areas-requires
-    accept-requires
+    (λ c κs. search needs)
     returns
-    same-length
+    (λ c. search needs)
     returns-2)

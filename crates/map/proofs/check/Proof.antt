@@ -9,38 +9,11 @@ use borrow.Author.Needs.{needs}
 use Rattle.map.proofs.check.Statement.{statement}
 use Rattle.map.proofs.check.Tie as tie
 
-region-end-requires : tie.Need-region-end-requires
-region-end-requires c κs = search needs
-
-enum-known-r : tie.Need-enum-known-r
-enum-known-r c = search needs
-
-enum-known-end : tie.Need-enum-known-end
-enum-known-end c = search needs
-
-add-if1 : tie.Need-add-if1
-add-if1 c = search needs
-
-cast-if1 : tie.Need-cast-if1
-cast-if1 c = search needs
-
-mul-if1 : tie.Need-mul-if1
-mul-if1 c = search needs
-
-add-if1-2 : tie.Need-add-if1-2
-add-if1-2 c = search needs
-
-size-out-requires : tie.Need-size-out-requires
-size-out-requires c κs = search needs
-
 returns : tie.Need-returns
 returns c =
     let e = c .before .before .before .before in
     ap maps.Refused (c .size-out .ensures)
     ∙ sym (ap mapsRead (maps-cut _ _ _ _ (sym (e .end .given .1) ∙ e .before .before .region-end .ensures) (omega arith) (omega arith)))
-
-add-counted : tie.Need-add-counted
-add-counted c = search needs
 
 counted-requires : tie.Need-counted-requires
 counted-requires c κs =
@@ -62,16 +35,16 @@ pub check-spec : {M : Type 1} → statement M
 check-spec =
     tie.close
     (tie.spec
-    region-end-requires
-    enum-known-r
-    enum-known-end
-    add-if1
-    cast-if1
-    mul-if1
-    add-if1-2
-    size-out-requires
+    (λ c κs. search needs)
+    (λ c. search needs)
+    (λ c. search needs)
+    (λ c. search needs)
+    (λ c. search needs)
+    (λ c. search needs)
+    (λ c. search needs)
+    (λ c κs. search needs)
     returns
-    add-counted
+    (λ c. search needs)
     counted-requires
     returns-2
     returns-3)

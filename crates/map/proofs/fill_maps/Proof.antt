@@ -8,12 +8,6 @@ use borrow.Author.Needs.{needs}
 use Rattle.map.proofs.fill_maps.Statement.{statement}
 use Rattle.map.proofs.fill_maps.Tie as tie
 
-region-end-requires : tie.Need-region-end-requires
-region-end-requires c κs = search needs
-
-enum-known-end : tie.Need-enum-known-end
-enum-known-end c = search needs
-
 enum-told : tie.Need-enum-told
 enum-told c = search needs
 
@@ -21,9 +15,6 @@ returns : tie.Need-returns
 returns c =
     let r = c .before .before in
     absurd (maps-never _ _ _ _ (sym (c .enum-told .given .1) ∙ r .region-end .ensures) (r .before .before .before .pre .1 .0))
-
-add-put-maps : tie.Need-add-put-maps
-add-put-maps c = search needs
 
 put-maps-requires : tie.Need-put-maps-requires
 put-maps-requires c κs =
@@ -34,9 +25,6 @@ put-maps-requires c κs =
     let room = maps-room _ _ _ _ f (omega arith) (pre .1 .0) in
     let l = maps-listed _ _ _ _ f room in
     ((region-bounds _ _ _ 16 _ (search needs) _ f .1, room, search needs), (ap verdict (sym l) ∙ pre .1 .0, (search needs, rw l at (pre .1 .1 .1))))
-
-same-length : tie.Need-same-length
-same-length c = search needs
 
 returns-2 : tie.Need-returns-2
 returns-2 c =
@@ -49,11 +37,11 @@ pub fill-maps-spec : {M : Type 1} → statement M
 fill-maps-spec =
     tie.close
     (tie.spec
-    region-end-requires
-    enum-known-end
+    (λ c κs. search needs)
+    (λ c. search needs)
     enum-told
     returns
-    add-put-maps
+    (λ c. search needs)
     put-maps-requires
-    same-length
+    (λ c. search needs)
     returns-2)

@@ -6,20 +6,8 @@ use borrow.Author.Needs.{needs}
 use Rattle.map.proofs.listed_at.Statement.{statement}
 use Rattle.map.proofs.listed_at.Tie as tie
 
-map-at-requires : tie.Need-map-at-requires
-map-at-requires c κs = search needs
-
 returns : tie.Need-returns
 returns c = c .map-at .ensures ∙ sym (ap mapRead (listed-first _ _ _ _ _ (c .before .if1 .taken)))
-
-word-requires : tie.Need-word-requires
-word-requires c κs = search needs
-
-cast-map-at : tie.Need-cast-map-at
-cast-map-at c = search needs
-
-map-at-requires-2 : tie.Need-map-at-requires-2
-map-at-requires-2 c κs = search needs
 
 returns-2 : tie.Need-returns-2
 returns-2 c = c .map-at2 .ensures ∙ sym (ap mapRead (listed-word _ _ _ _ _ _ (c .before .before .if1 .left) (c .before .word .ensures)))
@@ -27,4 +15,4 @@ returns-2 c = c .map-at2 .ensures ∙ sym (ap mapRead (listed-word _ _ _ _ _ _ (
 pub listed-at-spec : {M : Type 1} → statement M
 listed-at-spec =
     tie.close
-    (tie.spec map-at-requires returns word-requires cast-map-at map-at-requires-2 returns-2)
+    (tie.spec (λ c κs. search needs) returns (λ c κs. search needs) (λ c. search needs) (λ c κs. search needs) returns-2)

@@ -9,9 +9,6 @@ use Rattle.map.specs.Decides.{namedMap}
 use Rattle.map.proofs.named_map.Statement.{statement}
 use Rattle.map.proofs.named_map.Tie as tie
 
-check-requires : tie.Need-check-requires
-check-requires c κs = search needs
-
 enum-told : tie.Need-enum-told
 enum-told c = search needs
 
@@ -19,12 +16,6 @@ name-of-requires : tie.Need-name-of-requires
 name-of-requires c κs =
     let v = sym (c .before .before .check .ensures) ∙ c .enum-told .given .1 in
     search needs
-
-value-map-requires : tie.Need-value-map-requires
-value-map-requires c κs = search needs
-
-enum-known-r : tie.Need-enum-known-r
-enum-known-r c = search needs
 
 returns : tie.Need-returns
 returns c = ap read.Map (c .value-map .ensures) ∙ sym (ap (namedMap _ _ _ _) (name-until blob-end _ _ _ ∙ c .before .name-of .ensures))
@@ -35,4 +26,4 @@ returns-2 c =
     sym (ap (namedMap _ _ _ _) (name-until blob-end _ _ _ ∙ refused-value _ _ (sym (c .before .r .given .1) ∙ n .check .ensures)))
 
 pub named-map-spec : {M : Type 1} → statement M
-named-map-spec = tie.close (tie.spec check-requires enum-told name-of-requires value-map-requires enum-known-r returns returns-2)
+named-map-spec = tie.close (tie.spec (λ c κs. search needs) enum-told name-of-requires (λ c κs. search needs) (λ c. search needs) returns returns-2)

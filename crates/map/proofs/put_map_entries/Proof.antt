@@ -27,37 +27,16 @@ Inv-loop b end start n area₀ first place₀ left₀ to₀ area place left to =
 abbrev μ-loop : tie.MeasureT-loop
 μ-loop b end start n area₀ first place₀ left₀ to₀ area place left to = left
 
-mul-first : tie.Need-mul-first Inv-loop μ-loop
-mul-first c = search needs
-
-add-first : tie.Need-add-first Inv-loop μ-loop
-add-first c = search needs
-
 loop-holds : tie.Need-loop-holds Inv-loop μ-loop
 loop-holds c = (search needs, search needs, refl, search needs, refl)
 
-listed-at-requires : tie.Need-listed-at-requires Inv-loop μ-loop
-listed-at-requires c κs = search needs
-
-enum-known-m : tie.Need-enum-known-m Inv-loop μ-loop
-enum-known-m c = search needs
-
 enum-told : tie.Need-enum-told Inv-loop μ-loop
 enum-told c = search needs
-
-same-length : tie.Need-same-length Inv-loop μ-loop
-same-length c = search needs
 
 returns : tie.Need-returns Inv-loop μ-loop
 returns c =
     let m = c .before .before in
     absurd (never-refused _ _ _ _ _ _ (m .before .loop-test .taken) _ (sym (c .enum-told .given .1) ∙ m .listed-at .ensures) (m .before .before .loop .inv .3))
-
-cast-put-entries : tie.Need-cast-put-entries Inv-loop μ-loop
-cast-put-entries c = search needs
-
-add-put-entries : tie.Need-add-put-entries Inv-loop μ-loop
-add-put-entries c = search needs
 
 put-entries-requires : tie.Need-put-entries-requires Inv-loop μ-loop
 put-entries-requires c κs =
@@ -67,12 +46,6 @@ put-entries-requires c κs =
     let i = m .before .before .before .before .before .pre .0 .0 in
     let f = sym (l .m .given .1) ∙ m .listed-at .ensures in
     (next-inside _ _ _ _ _ _ h i _ f, omega (arith, next-count _ _ _ _ _ _ h i _ f (m .before .before .loop .inv .3)))
-
-cast-to : tie.Need-cast-to Inv-loop μ-loop
-cast-to c = search needs
-
-mul-to : tie.Need-mul-to Inv-loop μ-loop
-mul-to c = search needs
 
 add-to : tie.Need-add-to Inv-loop μ-loop
 add-to c =
@@ -86,12 +59,6 @@ add-place : tie.Need-add-place Inv-loop μ-loop
 add-place c =
     let l = c .before .before .before .before .before .before .before .before .before .before .before in
     omega (arith, l .loop .inv .0, l .before .before .before .pre .0)
-
-sub-left : tie.Need-sub-left Inv-loop μ-loop
-sub-left c = search needs
-
-loop-less : tie.Need-loop-less Inv-loop μ-loop
-loop-less c = search needs
 
 loop-again : tie.Need-loop-again Inv-loop μ-loop
 loop-again c =
@@ -109,9 +76,6 @@ loop-again c =
       inv .4 ∙ next-entries _ _ _ _ _ _ h i _ f (inv .3) _ _ _ (p .put-entries .ensures),
     )
 
-same-length-2 : tie.Need-same-length-2 Inv-loop μ-loop
-same-length-2 c = search needs
-
 returns-2 : tie.Need-returns-2 Inv-loop μ-loop
 unfolding flat
 returns-2 c =
@@ -127,23 +91,23 @@ put-map-entries-spec =
     (tie.spec
     Inv-loop
     μ-loop
-    mul-first
-    add-first
+    (λ c. search needs)
+    (λ c. search needs)
     loop-holds
-    listed-at-requires
-    enum-known-m
+    (λ c κs. search needs)
+    (λ c. search needs)
     enum-told
-    same-length
+    (λ c. search needs)
     returns
-    cast-put-entries
-    add-put-entries
+    (λ c. search needs)
+    (λ c. search needs)
     put-entries-requires
-    cast-to
-    mul-to
+    (λ c. search needs)
+    (λ c. search needs)
     add-to
     add-place
-    sub-left
-    loop-less
+    (λ c. search needs)
+    (λ c. search needs)
     loop-again
-    same-length-2
+    (λ c. search needs)
     returns-2)

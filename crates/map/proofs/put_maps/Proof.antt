@@ -29,34 +29,16 @@ Inv-loop b end start n before area₀ first place₀ left₀ entries₀ to₀ ar
 abbrev μ-loop : tie.MeasureT-loop
 μ-loop b end start n before area₀ first place₀ left₀ entries₀ to₀ area place left entries to = left
 
-mul-first : tie.Need-mul-first Inv-loop μ-loop
-mul-first c = search needs
-
-add-first : tie.Need-add-first Inv-loop μ-loop
-add-first c = search needs
-
 loop-holds : tie.Need-loop-holds Inv-loop μ-loop
 loop-holds c = (search needs, search needs, refl, search needs, refl, refl)
 
-listed-at-requires : tie.Need-listed-at-requires Inv-loop μ-loop
-listed-at-requires c κs = search needs
-
-enum-known-m : tie.Need-enum-known-m Inv-loop μ-loop
-enum-known-m c = search needs
-
 enum-told : tie.Need-enum-told Inv-loop μ-loop
 enum-told c = search needs
-
-same-length : tie.Need-same-length Inv-loop μ-loop
-same-length c = search needs
 
 returns : tie.Need-returns Inv-loop μ-loop
 returns c =
     let m = c .before .before in
     absurd (never-refused _ _ _ _ _ _ (m .before .loop-test .taken) _ (sym (c .enum-told .given .1) ∙ m .listed-at .ensures) (m .before .before .loop .inv .3))
-
-put-map-requires : tie.Need-put-map-requires Inv-loop μ-loop
-put-map-requires c κs = search needs
 
 add-entries : tie.Need-add-entries Inv-loop μ-loop
 add-entries c =
@@ -66,21 +48,12 @@ add-entries c =
     omega
     (arith, inv .4, m .before .before .before .before .before .pre .1 .1 .1, next-count _ _ _ _ _ _ (m .before .loop-test .taken) (omega arith) _ (sym (l .m .given .1) ∙ m .listed-at .ensures) (inv .3))
 
-add-place : tie.Need-add-place Inv-loop μ-loop
-add-place c = search needs
-
-sub-left : tie.Need-sub-left Inv-loop μ-loop
-sub-left c = search needs
-
 add-to : tie.Need-add-to Inv-loop μ-loop
 add-to c =
     let p = c .before .before .before in
     let m = p .before .before .before .before .before in
     let inv = m .before .before .loop .inv in
     omega (arith, m .before .loop-test .taken, inv .1, inv .2, m .before .before .before .before .before .good .1 .1 .1 .1 .1 .0)
-
-loop-less : tie.Need-loop-less Inv-loop μ-loop
-loop-less c = search needs
 
 loop-again : tie.Need-loop-again Inv-loop μ-loop
 loop-again c =
@@ -99,9 +72,6 @@ loop-again c =
       inv .5 ∙ next-maps _ _ _ _ _ _ h i _ f (inv .3) _ _ _ _ (p .put-map .ensures),
     )
 
-same-length-2 : tie.Need-same-length-2 Inv-loop μ-loop
-same-length-2 c = search needs
-
 returns-2 : tie.Need-returns-2 Inv-loop μ-loop
 unfolding flat mapList
 returns-2 c =
@@ -117,20 +87,20 @@ put-maps-spec =
     (tie.spec
     Inv-loop
     μ-loop
-    mul-first
-    add-first
+    (λ c. search needs)
+    (λ c. search needs)
     loop-holds
-    listed-at-requires
-    enum-known-m
+    (λ c κs. search needs)
+    (λ c. search needs)
     enum-told
-    same-length
+    (λ c. search needs)
     returns
-    put-map-requires
+    (λ c κs. search needs)
     add-entries
-    add-place
-    sub-left
+    (λ c. search needs)
+    (λ c. search needs)
     add-to
-    loop-less
+    (λ c. search needs)
     loop-again
-    same-length-2
+    (λ c. search needs)
     returns-2)

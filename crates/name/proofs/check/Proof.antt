@@ -12,11 +12,8 @@ returns : tie.Need-returns
 unfolding run nameAt
 returns c = rw (c .if1 .taken)
 
-check-sized-requires : tie.Need-check-sized-requires
-check-sized-requires c κs = search needs
-
 returns-2 : tie.Need-returns-2
 returns-2 c = c .check-sized .ensures ∙ sym (ap verdict (present _ _ _ _ (c .before .if1 .left)))
 
 pub check-spec : {M : Type 1} → statement M
-check-spec = tie.close (tie.spec returns check-sized-requires returns-2)
+check-spec = tie.close (tie.spec returns (λ c κs. search needs) returns-2)

@@ -8,54 +8,27 @@ use Rattle.name.specs.Sized.{refuses, sized-past, sized-cut, sized-small
 use Rattle.name.proofs.check_sized.Statement.{statement}
 use Rattle.name.proofs.check_sized.Tie as tie
 
-offset-out-requires : tie.Need-offset-out-requires
-offset-out-requires c κs = search needs
-
 returns : tie.Need-returns
 returns c = refuses _ _ _ _ _ _ (c .offset-out .ensures) (sized-past _ _ _ _ (omega arith))
 
-truncated-requires : tie.Need-truncated-requires
-truncated-requires c κs = search needs
-
 returns-2 : tie.Need-returns-2
 returns-2 c = refuses _ _ _ _ _ _ (c .truncated .ensures) (sized-cut _ _ _ _ (omega arith) (omega arith))
-
-word-requires : tie.Need-word-requires
-word-requires c κs = search needs
-
-size-out-requires : tie.Need-size-out-requires
-size-out-requires c κs = search needs
 
 returns-3 : tie.Need-returns-3
 returns-3 c =
     let w = c .before .before in
     refuses _ _ _ _ _ _ (c .size-out .ensures) (sized-small _ _ _ _ _ (w .word .ensures) (omega arith) (omega arith))
 
-cast-needed : tie.Need-cast-needed
-cast-needed c = search needs
-
-truncated-requires-2 : tie.Need-truncated-requires-2
-truncated-requires-2 c κs = search needs
-
 returns-4 : tie.Need-returns-4
 returns-4 c =
     let w = c .before .before .before in
     refuses _ _ _ _ _ _ (c .truncated2 .ensures) (sized-short _ _ _ _ _ (w .word .ensures) (omega arith) (omega arith) (omega arith))
-
-not-utf16-requires : tie.Need-not-utf16-requires
-not-utf16-requires c κs = search needs
 
 returns-5 : tie.Need-returns-5
 returns-5 c =
     let w = c .before .before .before .before in
     refuses _ _ _ _ _ _ (c .not-utf16 .ensures)
     (sized-odd _ _ _ _ _ (w .word .ensures) (omega arith) (omega arith) (omega arith) (c .before .if5 .taken))
-
-units-requires : tie.Need-units-requires
-units-requires c κs = search needs
-
-not-utf16-requires-2 : tie.Need-not-utf16-requires-2
-not-utf16-requires-2 c κs = search needs
 
 returns-6 : tie.Need-returns-6
 returns-6 c =
@@ -74,19 +47,19 @@ pub check-sized-spec : {M : Type 1} → statement M
 check-sized-spec =
     tie.close
     (tie.spec
-    offset-out-requires
+    (λ c κs. search needs)
     returns
-    truncated-requires
+    (λ c κs. search needs)
     returns-2
-    word-requires
-    size-out-requires
+    (λ c κs. search needs)
+    (λ c κs. search needs)
     returns-3
-    cast-needed
-    truncated-requires-2
+    (λ c. search needs)
+    (λ c κs. search needs)
     returns-4
-    not-utf16-requires
+    (λ c κs. search needs)
     returns-5
-    units-requires
-    not-utf16-requires-2
+    (λ c κs. search needs)
+    (λ c κs. search needs)
     returns-6
     returns-7)

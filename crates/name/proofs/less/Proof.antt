@@ -5,11 +5,8 @@ use borrow.Author.Needs.{needs}
 use Rattle.name.proofs.less.Statement.{statement}
 use Rattle.name.proofs.less.Tie as tie
 
-add-result : tie.Need-add-result
-add-result c = search needs
-
 returns : tie.Need-returns
 returns c = (less _ (omega arith), omega arith)
 
 pub less-spec : {M : Type 1} → statement M
-less-spec = tie.close (tie.spec add-result returns)
+less-spec = tie.close (tie.spec (λ c. search needs) returns)

@@ -9,9 +9,6 @@ use native.Mathlib.Omega.{arith}
 use Rattle.name.proofs.name_of.Statement.{statement}
 use Rattle.name.proofs.name_of.Tie as tie
 
-absent-requires : tie.Need-absent-requires
-absent-requires c κs = search needs
-
 returns : tie.Need-returns
 unfolding run nameAt
 returns c = rw (c .before .if1 .taken) (ap done (sym (c .absent .ensures)))
@@ -45,4 +42,4 @@ returns-2 c =
 pub name-of-spec : {M : Type 1} → statement M
 name-of-spec =
     tie.close
-    (tie.spec absent-requires returns word-requires sub-n units-requires add-t8 returns-2)
+    (tie.spec (λ c κs. search needs) returns word-requires sub-n units-requires add-t8 returns-2)

@@ -10,12 +10,6 @@ returns c = rw (← c .before .before .pre .1, le-ltb _ _ (c .if1 .taken))
 returns-2 : tie.Need-returns-2
 returns-2 c = rw (← c .before .before .before .pre .1, lt-ltb _ _ (c .before .if1 .left), le-ltb _ _ (c .if2 .taken))
 
-add-half : tie.Need-add-half
-add-half c = search needs
-
-half-requires : tie.Need-half-requires
-half-requires c κs = search needs
-
 returns-3 : tie.Need-returns-3
 returns-3 c =
     let h = c .before in
@@ -27,4 +21,4 @@ returns-4 c =
     rw (← h .before .before .before .before .pre .1, lt-ltb _ _ (h .before .before .if1 .left), lt-ltb _ _ (h .before .if2 .left), ← h .half .ensures, le-leb _ _ (c .if3 .left))
 
 pub paired-spec : {M : Type 1} → statement M
-paired-spec = tie.close (tie.spec returns returns-2 add-half half-requires returns-3 returns-4)
+paired-spec = tie.close (tie.spec returns returns-2 (λ c. search needs) (λ c κs. search needs) returns-3 returns-4)

@@ -31,17 +31,8 @@ Inv-loop2 b field offset n at₀ left₀ at left = Inv-loop b field offset n at�
 abbrev μ-loop2 : tie.MeasureT-loop2
 μ-loop2 b field offset n at₀ left₀ at left = left
 
-add-at : tie.Need-add-at Inv-loop μ-loop Inv-loop2 μ-loop2
-add-at c = search needs
-
 loop-holds : tie.Need-loop-holds Inv-loop μ-loop Inv-loop2 μ-loop2
 loop-holds c = (search needs, search needs, rw sub-self)
-
-four-requires : tie.Need-four-requires Inv-loop μ-loop Inv-loop2 μ-loop2
-four-requires c κs = search needs
-
-add-at-2 : tie.Need-add-at-2 Inv-loop μ-loop Inv-loop2 μ-loop2
-add-at-2 c = search needs
 
 sub-left : tie.Need-sub-left Inv-loop μ-loop Inv-loop2 μ-loop2
 sub-left c = leb-true _ _ (both _ _ (sym (c .before .four .ensures) ∙ c .if1 .taken) .0)
@@ -62,22 +53,10 @@ loop-again c =
 loop2-holds : tie.Need-loop2-holds Inv-loop μ-loop Inv-loop2 μ-loop2
 loop2-holds c = c .before .before .loop .inv
 
-half-requires : tie.Need-half-requires Inv-loop μ-loop Inv-loop2 μ-loop2
-half-requires c κs = search needs
-
-sub-result : tie.Need-sub-result Inv-loop μ-loop Inv-loop2 μ-loop2
-sub-result c = search needs
-
 returns : tie.Need-returns Inv-loop μ-loop Inv-loop2 μ-loop2
 returns c =
     let h = c .before .before in
     h .before .before .loop2 .inv .2 ∙ text-zero _ _ _ _ _ _ _ (omega arith) (h .before .loop2-test .taken) (sym (h .half .ensures) ∙ c .if3 .taken)
-
-paired-requires : tie.Need-paired-requires Inv-loop μ-loop Inv-loop2 μ-loop2
-paired-requires c κs = search needs
-
-add-at-3 : tie.Need-add-at-3 Inv-loop μ-loop Inv-loop2 μ-loop2
-add-at-3 c = search needs
 
 sub-left-2 : tie.Need-sub-left-2 Inv-loop μ-loop Inv-loop2 μ-loop2
 sub-left-2 c = pairs-two _ _ _ (sym (c .before .paired .ensures) ∙ c .if5 .taken)
@@ -103,15 +82,6 @@ returns-2 c =
     l .loop2 .inv .2
     ∙ text-unpaired _ _ _ _ _ _ (h .before .loop2-test .taken) (omega arith) (omega arith) (l .before .before .before .before .before .args .n) 4294967295 (omega arith) (sym (p .paired .ensures) ∙ c .if5 .left)
 
-add-at-4 : tie.Need-add-at-4 Inv-loop μ-loop Inv-loop2 μ-loop2
-add-at-4 c = search needs
-
-sub-left-3 : tie.Need-sub-left-3 Inv-loop μ-loop Inv-loop2 μ-loop2
-sub-left-3 c = search needs
-
-loop2-less-2 : tie.Need-loop2-less-2 Inv-loop μ-loop Inv-loop2 μ-loop2
-loop2-less-2 c = search needs
-
 loop2-again-2 : tie.Need-loop2-again-2 Inv-loop μ-loop Inv-loop2 μ-loop2
 loop2-again-2 c = (
   search needs,
@@ -136,25 +106,25 @@ units-spec =
     μ-loop
     Inv-loop2
     μ-loop2
-    add-at
+    (λ c. search needs)
     loop-holds
-    four-requires
-    add-at-2
+    (λ c κs. search needs)
+    (λ c. search needs)
     sub-left
     loop-less
     loop-again
     loop2-holds
-    half-requires
-    sub-result
+    (λ c κs. search needs)
+    (λ c. search needs)
     returns
-    paired-requires
-    add-at-3
+    (λ c κs. search needs)
+    (λ c. search needs)
     sub-left-2
     loop2-less
     loop2-again
     returns-2
-    add-at-4
-    sub-left-3
-    loop2-less-2
+    (λ c. search needs)
+    (λ c. search needs)
+    (λ c. search needs)
     loop2-again-2
     returns-3)

@@ -5,26 +5,11 @@ use borrow.Author.Needs.{needs}
 use Rattle.provided.proofs.wevt_of.Statement.{statement}
 use Rattle.provided.proofs.wevt_of.Tie as tie
 
-add-word : tie.Need-add-word
-add-word c = search needs
-
-word-requires : tie.Need-word-requires
-word-requires c κs = search needs
-
-cast-place : tie.Need-cast-place
-cast-place c = search needs
-
-add-word-2 : tie.Need-add-word-2
-add-word-2 c = search needs
-
 word-requires-2 : tie.Need-word-requires-2
 word-requires-2 c κs =
     let f = c in
     let r = header-room _ _ (f .before .before .pre .1) in
     omega (arith, r, f .word .ensures)
-
-add-word-3 : tie.Need-add-word-3
-add-word-3 c = search needs
 
 word-requires-3 : tie.Need-word-requires-3
 word-requires-3 c κs =
@@ -32,17 +17,11 @@ word-requires-3 c κs =
     let r = header-room _ _ (f .before .before .pre .1) in
     omega (arith, r, f .word .ensures)
 
-add-word-4 : tie.Need-add-word-4
-add-word-4 c = search needs
-
 word-requires-4 : tie.Need-word-requires-4
 word-requires-4 c κs =
     let f = c .before .before in
     let r = header-room _ _ (f .before .before .pre .1) in
     omega (arith, r, f .word .ensures)
-
-add-word-5 : tie.Need-add-word-5
-add-word-5 c = search needs
 
 word-requires-5 : tie.Need-word-requires-5
 word-requires-5 c κs =
@@ -59,15 +38,15 @@ pub wevt-of-spec : {M : Type 1} → statement M
 wevt-of-spec =
     tie.close
     (tie.spec
-    add-word
-    word-requires
-    cast-place
-    add-word-2
+    (λ c. search needs)
+    (λ c κs. search needs)
+    (λ c. search needs)
+    (λ c. search needs)
     word-requires-2
-    add-word-3
+    (λ c. search needs)
     word-requires-3
-    add-word-4
+    (λ c. search needs)
     word-requires-4
-    add-word-5
+    (λ c. search needs)
     word-requires-5
     returns)

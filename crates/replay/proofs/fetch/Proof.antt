@@ -10,20 +10,8 @@ use Rattle.replay.specs.Laws.{length-read}
 use Rattle.replay.proofs.fetch.Statement.{statement}
 use Rattle.replay.proofs.fetch.Tie as tie
 
-buffer-requires : tie.Need-buffer-requires
-buffer-requires c κs = search needs
-
-mul-n : tie.Need-mul-n
-mul-n c = search needs
-
-array-borrow-prefix-buffer : tie.Need-array-borrow-prefix-buffer
-array-borrow-prefix-buffer c = search needs
-
 slice-aggregate-read-full : tie.Need-slice-aggregate-read-full
 slice-aggregate-read-full c = simp length-take (omega arith)
-
-read-full-requires : tie.Need-read-full-requires
-read-full-requires c κs = search needs
 
 -- the buffer once its first bytes are read
 whole : (r : tie.After-read-full) → length (r .read-full .last .1 .0 ++ drop (4 * length (r .before .before .before .before .args .to .now)) (r .before .before .buffer .result)) ≡ 4 * (64 * WIDEST)
@@ -37,22 +25,16 @@ slice-aggregate-put c = sym (whole (c .before .before))
 put-requires : tie.Need-put-requires
 put-requires c κs = omega (arith, whole (c .before .before .before))
 
-same-length : tie.Need-same-length
-same-length c = search needs
-
-returns : tie.Need-returns
-returns c = search needs
-
 pub fetch-spec : {M : Type 1} → statement M
 fetch-spec =
     tie.close
     (tie.spec
-    buffer-requires
-    mul-n
-    array-borrow-prefix-buffer
+    (λ c κs. search needs)
+    (λ c. search needs)
+    (λ c. search needs)
     slice-aggregate-read-full
-    read-full-requires
+    (λ c κs. search needs)
     slice-aggregate-put
     put-requires
-    same-length
-    returns)
+    (λ c. search needs)
+    (λ c. search needs))

@@ -6,12 +6,6 @@ use Rattle.table.specs.Headers.{records-bytes}
 use Rattle.table.proofs.records_length.Statement.{statement}
 use Rattle.table.proofs.records_length.Tie as tie
 
-stride-requires : tie.Need-stride-requires
-stride-requires c κs = search needs
-
-cast-result : tie.Need-cast-result
-cast-result c = search needs
-
 mul-result : tie.Need-mul-result
 mul-result c = omega (arith, records-bytes (c .stride .result) (c .before .args .count) (omega arith) (omega arith))
 
@@ -19,4 +13,4 @@ returns : tie.Need-returns
 returns c = (ap (λ w. w * c .before .args .count) (c .stride .ensures .0), records-bytes _ _ (omega arith) (omega arith))
 
 pub records-length-spec : {M : Type 1} → statement M
-records-length-spec = tie.close (tie.spec stride-requires cast-result mul-result returns)
+records-length-spec = tie.close (tie.spec (λ c κs. search needs) (λ c. search needs) mul-result returns)
