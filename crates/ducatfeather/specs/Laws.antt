@@ -13,7 +13,7 @@ use Rattle.blob.specs.Reading.{refused, choose}
 use Rattle.format.specs.Area.{AREAS}
 use Rattle.format.specs.Answer.{answer, needing, held, own}
 use Rattle.format.specs.theorems.Determined.{needs-refused}
-use Rattle.ducatfeather.specs.Call.{misfit, each-row}
+use Rattle.format.specs.Call.{misfit, each-row}
 
 -- numbers laid into as many are all that is there
 pub laid-whole : (a ws : List ℕ) → length a ≡ length ws → laid a 0 ws ≡ ws

@@ -1,5 +1,2 @@
--- What a call over the C boundary answers.
-pub mod Call
--- Theorems about it.
+-- Laws of the calls over the C boundary.
 pub mod Laws
-pub mod Determined

@@ -19,6 +19,7 @@ pub mod Join
 pub mod Handle
 pub mod Listing
 pub mod Says
+pub mod Call
 pub mod Rests
 -- What the building blocks speak of besides, on the way there.
 pub mod steps

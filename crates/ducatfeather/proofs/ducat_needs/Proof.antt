@@ -1,6 +1,6 @@
 use mathlib.Core.Path.{ap, _∙_}
 use Rattle.format.specs.declared.Answer.{Answer}
-use Rattle.ducatfeather.specs.Call.{told, numbers}
+use Rattle.format.specs.Call.{told, numbers}
 use borrow.Author.Needs.{needs}
 use Rattle.ducatfeather.proofs.ducat_needs.Statement.{statement}
 use Rattle.ducatfeather.proofs.ducat_needs.Tie as tie

@@ -1,6 +1,6 @@
 use mathlib.Core.Path.{ap, _∙_}
 use lib.ListN.{getD}
-use Rattle.ducatfeather.specs.Call.{told, templateNumbers}
+use Rattle.format.specs.Call.{told, templateNumbers}
 use borrow.Author.Needs.{needs}
 use Rattle.ducatfeather.proofs.ducat_template_at.Statement.{statement}
 use Rattle.ducatfeather.proofs.ducat_template_at.Tie as tie

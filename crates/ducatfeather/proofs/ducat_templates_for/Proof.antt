@@ -1,6 +1,6 @@
 use mathlib.Core.Path.{ap, _∙_}
 use lib.ListN.{getD}
-use Rattle.ducatfeather.specs.Call.{told, guidNumbers}
+use Rattle.format.specs.Call.{told, guidNumbers}
 use borrow.Author.Needs.{needs}
 use Rattle.ducatfeather.proofs.ducat_templates_for.Statement.{statement}
 use Rattle.ducatfeather.proofs.ducat_templates_for.Tie as tie

@@ -1,7 +1,7 @@
 -- A call that misfits is refused; any other tells what the block needs.
 use mathlib.Core.Path.{sym, _∙_}
 use borrow.Author.Tests.{eq-eqb, ne-eqb}
-use Rattle.ducatfeather.specs.Call.{calledNeeds}
+use Rattle.format.specs.Call.{calledNeeds}
 use Rattle.ducatfeather.specs.Laws.{misfit-needs}
 use borrow.Author.Needs.{needs}
 use Rattle.ducatfeather.proofs.needs.Statement.{statement}

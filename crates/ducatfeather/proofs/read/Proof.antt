@@ -1,6 +1,6 @@
 -- A call that misfits is refused and touches nothing; any other is the reading.
 use borrow.Author.Tests.{eq-eqb, ne-eqb}
-use Rattle.ducatfeather.specs.Call.{called}
+use Rattle.format.specs.Call.{called}
 use Rattle.ducatfeather.specs.Laws.{misfit-keeps}
 use borrow.Author.Needs.{needs}
 use Rattle.ducatfeather.proofs.read.Statement.{statement}

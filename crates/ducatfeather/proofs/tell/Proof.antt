@@ -6,7 +6,7 @@ use borrow.Author.Needs.{needs}
 use borrow.Author.Tests.{eq-eqb, ne-eqb}
 use lib.ListN.{length, drop, length-set}
 use Rattle.blob.specs.Laid.{laid}
-use Rattle.ducatfeather.specs.Call.{told}
+use Rattle.format.specs.Call.{told}
 use Rattle.ducatfeather.specs.Laws.{laid-whole, laid-rest, laid-none}
 use Rattle.ducatfeather.proofs.tell.Statement.{statement}
 use Rattle.ducatfeather.proofs.tell.Tie as tie

@@ -2,7 +2,7 @@
 use mathlib.Core.Path.{ap, sym, _∙_}
 use borrow.Author.Tests.{eq-eqb, ne-eqb, not-true, not-false}
 use Rattle.format.specs.declared.TemplateFound.the-variants as template
-use Rattle.ducatfeather.specs.Call.{calledAt}
+use Rattle.format.specs.Call.{calledAt}
 use Rattle.ducatfeather.specs.Laws.{rows-of}
 use borrow.Author.Needs.{needs}
 use Rattle.ducatfeather.proofs.template_at.Statement.{statement}

@@ -2,7 +2,7 @@
 use mathlib.Core.Path.{refl, ap, sym, _∙_}
 use borrow.Author.Tests.{eq-eqb, ne-eqb, not-true, not-false}
 use Rattle.format.specs.declared.GuidsFound.the-variants as guids
-use Rattle.ducatfeather.specs.Call.{calledFor}
+use Rattle.format.specs.Call.{calledFor}
 use Rattle.ducatfeather.specs.Laws.{rows-of}
 use borrow.Author.Needs.{needs}
 use Rattle.ducatfeather.proofs.templates_for.Statement.{statement}

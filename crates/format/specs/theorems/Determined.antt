@@ -12,6 +12,7 @@ use Rattle.format.specs.Lists.{lists}
 use Rattle.format.specs.Answer.{answer, needing, held, Allowed, NeedsAllowed}
 use Rattle.format.specs.Lookup.{AllowedAt, AllowedFor}
 use Rattle.format.specs.Handle.{AllowedPart}
+use Rattle.format.specs.Call.{AllowedRead, AllowedNeeds, AllowedTemplate, AllowedGuids}
 use Rattle.format.specs.declared.Answer.{Answer}
 use Rattle.format.specs.declared.Key.{Key}
 use Rattle.format.specs.declared.TemplateFound.{TemplateFound}
@@ -36,6 +37,22 @@ module _ (words capacities counts : List ℕ) where
 
 pub determined-part : (bytes : List ℕ) (size start len : ℕ) (p q : List ℕ) → AllowedPart bytes size start len p → AllowedPart bytes size start len q → p ≡ q
 determined-part bytes size start len p q h k = h ∙ sym k
+
+-- and so over the C boundary
+pub determined-read : (bytes words capacities lent : List ℕ) (c d : ℕ) (w v l m : List ℕ)
+    → AllowedRead bytes words capacities lent c w l → AllowedRead bytes words capacities lent d v m → (c ≡ d) × (w ≡ v) × (l ≡ m)
+determined-read bytes words capacities lent c d w v l m h g = (h .coded ∙ sym (g .coded), h .kept ∙ sym (g .kept), h .numbered ∙ sym (g .numbered))
+
+pub determined-needs : (bytes lent : List ℕ) (c d : ℕ) (l m : List ℕ) → AllowedNeeds bytes lent c l → AllowedNeeds bytes lent d m → (c ≡ d) × (l ≡ m)
+determined-needs bytes lent c d l m h g = (h .coded ∙ sym (g .coded), h .numbered ∙ sym (g .numbered))
+
+pub determined-template : (words capacities counts : List ℕ) (first count offset : ℕ) (lent : List ℕ) (c d : ℕ) (l m : List ℕ)
+    → AllowedTemplate words capacities counts first count offset lent c l → AllowedTemplate words capacities counts first count offset lent d m → (c ≡ d) × (l ≡ m)
+determined-template words capacities counts first count offset lent c d l m h g = (h .coded ∙ sym (g .coded), h .numbered ∙ sym (g .numbered))
+
+pub determined-guids : (words capacities counts key guids lent : List ℕ) (c d : ℕ) (w v l m : List ℕ)
+    → AllowedGuids words capacities counts key guids lent c w l → AllowedGuids words capacities counts key guids lent d v m → (c ≡ d) × (w ≡ v) × (l ≡ m)
+determined-guids words capacities counts key guids lent c d w v l m h g = (h .coded ∙ sym (g .coded), h .kept ∙ sym (g .kept), h .numbered ∙ sym (g .numbered))
 
 -- the counts of an accepted blob are the lengths of its lists
 pub counts-are-lengths : (c : Crim) → answer (done c) .counts ≡ map (λ l. length l) (lists (c .providers))
