@@ -68,11 +68,7 @@ pub read-none : (s : List ℕ) (left at u n : ℕ) (ps : List ℕ) → left ≤ 
 unfolding unknowns lastOf known placed
 read-none s left at u n ps h = ap (readFrom u n ps) (from-none s left at h) ∙ (let e : u + 0 ≡ u = omega arith in rw e)
 
--- what a verdict, and the answer for an element, tell of their readings
-pub has-refused : {A : Type 0} (o : Outcome A) (r : Refusal) → verdicts.Refused r ≡ verdict o → o ≡ refused r
-has-refused (done a) r h = absurd (not-fine r h)
-has-refused (refused q) r h = cc
-
+-- what the answer for an element tells of its reading
 is-fine : (o : Outcome Element) (x : ℕ) → entries.Entries x ≡ elementRead o → (e : Element) × (o ≡ done e) × (x ≡ capped (entriesOf e))
 is-fine (done e) x h = (e, refl, cc)
 is-fine (refused r) x h = absurd (let z : _≡_ {A = ℕ} 0 1 = cc in omega arith)

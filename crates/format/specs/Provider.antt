@@ -21,8 +21,6 @@ use Rattle.format.specs.declared.Wevt.{Wevt}
 use Rattle.format.specs.declared.WevtRead.{WevtRead}
 use Rattle.format.specs.declared.WevtRead.the-variants as wevt
 use Rattle.format.specs.declared.Descriptor.{Descriptor}
-use Rattle.format.specs.declared.DescriptorRead.{DescriptorRead}
-use Rattle.format.specs.declared.DescriptorRead.the-variants as descriptor
 use Rattle.format.specs.declared.Unknown.{Unknown}
 
 -- `WEVT` as a little-endian number
@@ -108,10 +106,6 @@ descriptorAt at =
 -- the elements of n descriptors from a place on
 abbrev pub elementsFrom : ℕ → ℕ → Reading (List Element)
 elementsFrom n at = many descriptorAt (step 8) n at >>= each elementAt
-
--- what the code answers for a descriptor
-abbrev pub descriptorRead : Outcome Descriptor → DescriptorRead
-descriptorRead o = answer descriptor.Descriptor descriptor.Refused o
 
 -- "signature, size, message, descriptor count, unknown2 count"; "WEVT.size is recorded, not tested."
 unfoldable pub wevtAt : ℕ → Reading Wevt

@@ -24,9 +24,6 @@ endTold r = elim r [ declared.EndRead.the-variants.End e ↦ done e | declared.E
 abbrev pub headerTold : declared.HeaderRead.HeaderRead → Outcome declared.Header.Header
 headerTold r = elim r [ declared.HeaderRead.the-variants.Header h ↦ done h | declared.HeaderRead.the-variants.Refused q ↦ refused q ]
 
-abbrev pub tempTold : declared.TemplateRead.TemplateRead → Outcome declared.Template.Template
-tempTold r = elim r [ declared.TemplateRead.the-variants.Template t ↦ done t | declared.TemplateRead.the-variants.Refused q ↦ refused q ]
-
 abbrev pub mapTold : declared.MapRead.MapRead → Outcome declared.Map.Map
 mapTold r = elim r [ declared.MapRead.the-variants.Map m ↦ done m | declared.MapRead.the-variants.Refused q ↦ refused q ]
 
@@ -39,9 +36,6 @@ crimTold r = elim r [ declared.CrimRead.the-variants.Header h ↦ done h | decla
 
 abbrev pub wevtTold : declared.WevtRead.WevtRead → Outcome declared.Wevt.Wevt
 wevtTold r = elim r [ declared.WevtRead.the-variants.Wevt w ↦ done w | declared.WevtRead.the-variants.Refused q ↦ refused q ]
-
-abbrev pub descriptorTold : declared.DescriptorRead.DescriptorRead → Outcome declared.Descriptor.Descriptor
-descriptorTold r = elim r [ declared.DescriptorRead.the-variants.Descriptor d ↦ done d | declared.DescriptorRead.the-variants.Refused q ↦ refused q ]
 
 -- how many GUIDs
 abbrev pub guidsTold : declared.GuidsFound.GuidsFound → Outcome ℕ

@@ -5,7 +5,7 @@ use mathlib.Core.Bool.{not, _||_}
 use mathlib.Core.List.{List}
 use lib.Dec.{leb, ltb, eqb}
 use Rattle.blob.specs.declared.Refusal.{Refusal}
-use Rattle.blob.specs.Reading.{Reading, got, stop, Outcome, choose, demand, _>>=_, number, many, answer}
+use Rattle.blob.specs.Reading.{Reading, got, stop, choose, demand, _>>=_, number, many}
 use Rattle.format.specs.Field.{TEMP-header, TEMP-size, TEMP-item-name-count-expected-0, TEMP-template-items-offset, TEMP-template-items-offset-relative, table-size}
 use Rattle.format.specs.Refuse.{a-code, fine, truncated, wrong-signature, size-out, count-out, offset-out}
 use Rattle.format.specs.Region.{Region, inside, regionAt}
@@ -17,8 +17,6 @@ use Rattle.format.specs.declared.TemplatePlace.{TemplatePlace}
 use Rattle.format.specs.declared.Items.{Items}
 use Rattle.format.specs.declared.Items.the-variants as items
 use Rattle.format.specs.declared.Template.{Template}
-use Rattle.format.specs.declared.TemplateRead.{TemplateRead}
-use Rattle.format.specs.declared.TemplateRead.the-variants as read
 
 -- `TEMP` as a little-endian number
 abbrev pub TEMP : ℕ
@@ -89,7 +87,3 @@ unfoldable pub templatesAt : ℕ → Header → Reading (List Template)
 templatesAt at h =
     regionAt (table-size TTBL) at (h .size) (header-length TTBL) >>= λ region.
     many (templateAt region) next (h .count) (at + header-length TTBL)
-
--- what the code answers for a TEMP
-abbrev pub templateRead : Outcome Template → TemplateRead
-templateRead o = answer read.Template read.Refused o

@@ -100,12 +100,6 @@ pub struct Template {
     pub length: u32,
 }
 
-// What reading a TEMP finds.
-pub enum TemplateRead {
-    Template(Template),
-    Refused(Refusal),
-}
-
 // A map of a MAPS: a VMAP (kind 1), a BMAP (2) or another (3). For the last two size, string, name and count are 0.
 pub struct Map {
     pub kind: u32,
@@ -156,12 +150,6 @@ pub struct Descriptor {
     pub offset: u32,
     pub unknown: u32,
     pub signature: u32,
-}
-
-// What reading a descriptor finds.
-pub enum DescriptorRead {
-    Descriptor(Descriptor),
-    Refused(Refusal),
 }
 
 // An element of no known kind.

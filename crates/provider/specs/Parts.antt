@@ -12,7 +12,7 @@ use Rattle.blob.specs.Le.{le}
 use Rattle.blob.specs.declared.Refusal.{Refusal}
 use Rattle.blob.specs.declared.Verdict.the-variants as verdicts
 use Rattle.blob.specs.Reading.{Fault, Reading, got, room, Outcome, done, refused, choose, run, number, many, each, verdict, values}
-use Rattle.blob.specs.Laws.{run-after, run-stopped, run-number, run-room, run-got, finds-number, many-fine, many-count, fine-done, not-fine}
+use Rattle.blob.specs.Laws.{run-after, run-stopped, run-number, run-room, run-got, finds-number, many-fine, many-count, fine-done, not-fine, refused-value}
 use Rattle.words.specs.Guid.{guid-found}
 use Rattle.format.specs.Field.{WEVT-descriptor-array, WEVT-unknown2-array}
 use Rattle.format.specs.Refuse.{whole}
@@ -26,7 +26,7 @@ use Rattle.format.specs.declared.Descriptor.{Descriptor}
 use Rattle.format.specs.declared.Wevt.{Wevt}
 use Rattle.format.specs.declared.WevtRead.the-variants as wevt
 use Rattle.format.specs.declared.Needed.{Needed}
-use Rattle.element.specs.Counted.{needsOf, neededFor, has-refused}
+use Rattle.element.specs.Counted.{needsOf, neededFor}
 
 -- what each list needs for a provider with such a header, whose elements need so much
 abbrev pub own : List ℕ → Wevt → List ℕ
@@ -110,7 +110,7 @@ module _ (s : List ℕ) (at offset : ℕ) (o : offset ≡ le 4 s (at + 16)) wher
     module _ (i : offset + 20 + 8 * w .descriptors ≤ length s) where
       pub descriptors-refused : (r : Refusal) → verdicts.Refused r ≡ verdict (run array s) → run (describedAt at) s ≡ refused r
       unfolding providerAt
-      descriptors-refused r v = rw (described-run, run-after (wevtAt offset) _ s w header, run-room, run-stopped array _ s r (has-refused _ r v))
+      descriptors-refused r v = rw (described-run, run-after (wevtAt offset) _ s w header, run-room, run-stopped array _ s r (refused-value _ r v))
 
       module _ (f : verdict (run array s) ≡ verdicts.Fine) where
         abbrev words : Reading (List ℕ)

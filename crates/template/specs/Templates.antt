@@ -23,10 +23,6 @@ use Rattle.format.specs.declared.Header.{Header}
 use Rattle.format.specs.declared.Template.{Template}
 use Rattle.template.specs.Temp.{templateOf, Stands, fine-template}
 
-pub is-refused : (o : Outcome Template) (r : Refusal) → verdicts.Refused r ≡ verdict o → o ≡ refused r
-is-refused (done t) r h = absurd (not-fine r h)
-is-refused (refused q) r h = cc
-
 -- the first of some that are fine is one
 pub first-fine : (e left at : ℕ) (s : List ℕ) (size : ℕ) → size ≡ le 4 s (at + 4) → 0 < left → verdict (run (many (templateAt (until e)) next left at) s) ≡ verdicts.Fine
     → Stands e at size × (run (templateAt (until e) at) s ≡ done (templateOf s at size))

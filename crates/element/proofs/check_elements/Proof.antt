@@ -9,11 +9,11 @@ use borrow.Author.Tests.{eq-eqb, ne-eqb}
 use lib.ListN.{length}
 use Rattle.blob.specs.declared.Verdict.the-variants as verdicts
 use Rattle.blob.specs.Reading.{run, many, verdict}
-use Rattle.blob.specs.Laws.{many-more}
+use Rattle.blob.specs.Laws.{many-more, refused-value}
 use Rattle.format.specs.Definition.{step}
 use Rattle.format.specs.Provider.{descriptorAt, elementsFrom}
 use Rattle.element.specs.Elements.{signature-fits, next-described}
-use Rattle.element.specs.Counted.{elementsRead, readFrom, read-all, read-none, has-refused, is-refused, as-unknown, read-stop, read-unknown, read-table}
+use Rattle.element.specs.Counted.{elementsRead, readFrom, read-all, read-none, is-refused, as-unknown, read-stop, read-unknown, read-table}
 use Rattle.element.proofs.check_elements.Statement.{statement}
 use Rattle.element.proofs.check_elements.Tie as tie
 
@@ -37,7 +37,7 @@ returns c =
     let inv = m .before .loop .inv in
     c .refused .ensures ∙ sym (inv .3
     ∙ read-stop _ _ _ (m .loop-test .taken) _ (d .descriptor-of .ensures) _ (k .kind-of .ensures .0) _ _ _ _
-    (as-unknown _ _ _ (e .before .before .if1 .taken) ∙ has-refused _ _ (sym (x .before .r .given .1) ∙ e .check-unknown .ensures)) (inv .2))
+    (as-unknown _ _ _ (e .before .before .if1 .taken) ∙ refused-value _ _ (sym (x .before .r .given .1) ∙ e .check-unknown .ensures)) (inv .2))
 
 returns-2 : tie.Need-returns-2 Inv-loop μ-loop
 returns-2 c =

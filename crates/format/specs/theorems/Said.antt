@@ -14,7 +14,7 @@ use Rattle.blob.specs.Reading.{Outcome, done, refused, choose, then, answer, ve
 use Rattle.format.specs.Area.{TEMPLATES, of}
 use Rattle.format.specs.Answer.{own, lent-enough, capped}
 use Rattle.format.specs.Lookup.{entriesOf, wordOf, counts-fit, position, numbered, byOffset, guidsFound}
-use Rattle.format.specs.Says.{verdictTold, endTold, headerTold, tempTold, mapTold, entriesTold, crimTold, wevtTold, descriptorTold, guidsTold, templateTold}
+use Rattle.format.specs.Says.{verdictTold, endTold, headerTold, mapTold, entriesTold, crimTold, wevtTold, guidsTold, templateTold}
 use Rattle.format.specs as format
 
 -- an enum is the answer for an outcome exactly where it tells that outcome, or what it keeps of it
@@ -38,10 +38,8 @@ module _ {A R : Type 0} (told : R → Outcome A) where
 pub record Enums : Type 1 where
   pub verdict : {A : Type 0} → Keeps verdictTold (λ (a : A). tt) verdict
   pub header : Exactly headerTold format.Table.headerRead
-  pub temp : Exactly tempTold format.Template.templateRead
   pub crim : Exactly crimTold format.Crim.crimRead
   pub wevt : Exactly wevtTold format.Provider.wevtRead
-  pub descriptor : Exactly descriptorTold format.Provider.descriptorRead
   pub end : {A : Type 0} (told : A → ℕ) → Keeps endTold told (format.Region.endRead told)
   pub map : Keeps mapTold (λ m. m .map) format.Map.mapRead
   pub maps : Keeps entriesTold (λ ms. capped (format.steps.Needs.entryCount ms)) format.steps.Needs.mapsRead
@@ -54,10 +52,8 @@ enums =
     record {
       verdict = keeps verdictTold (λ a. tt) (λ u. verdicts.Fine) (exactly verdictTold (λ a. refl) (λ q. refl) (λ r. elim r [ verdicts.Fine ↦ refl | verdicts.Refused q ↦ refl ]));
       header = exactly headerTold (λ a. refl) (λ q. refl) (λ r. elim r [ format.declared.HeaderRead.the-variants.Header a ↦ refl | format.declared.HeaderRead.the-variants.Refused q ↦ refl ]);
-      temp = exactly tempTold (λ a. refl) (λ q. refl) (λ r. elim r [ format.declared.TemplateRead.the-variants.Template a ↦ refl | format.declared.TemplateRead.the-variants.Refused q ↦ refl ]);
       crim = exactly crimTold (λ a. refl) (λ q. refl) (λ r. elim r [ format.declared.CrimRead.the-variants.Header a ↦ refl | format.declared.CrimRead.the-variants.Refused q ↦ refl ]);
       wevt = exactly wevtTold (λ a. refl) (λ q. refl) (λ r. elim r [ format.declared.WevtRead.the-variants.Wevt a ↦ refl | format.declared.WevtRead.the-variants.Refused q ↦ refl ]);
-      descriptor = exactly descriptorTold (λ a. refl) (λ q. refl) (λ r. elim r [ format.declared.DescriptorRead.the-variants.Descriptor a ↦ refl | format.declared.DescriptorRead.the-variants.Refused q ↦ refl ]);
       end = λ told. keeps endTold told format.declared.EndRead.the-variants.End (exactly endTold (λ a. refl) (λ q. refl) (λ r. elim r [ format.declared.EndRead.the-variants.End a ↦ refl | format.declared.EndRead.the-variants.Refused q ↦ refl ]));
       map = keeps mapTold (λ m. m .map) format.declared.MapRead.the-variants.Map (exactly mapTold (λ a. refl) (λ q. refl) (λ r. elim r [ format.declared.MapRead.the-variants.Map a ↦ refl | format.declared.MapRead.the-variants.Refused q ↦ refl ]));
       maps = keeps entriesTold (λ ms. capped (format.steps.Needs.entryCount ms)) format.declared.EntriesRead.the-variants.Entries (exactly entriesTold (λ a. refl) (λ q. refl) (λ r. elim r [ format.declared.EntriesRead.the-variants.Entries a ↦ refl | format.declared.EntriesRead.the-variants.Refused q ↦ refl ]));

@@ -6,11 +6,11 @@ use borrow.Author.Needs.{needs}
 use borrow.Author.Tests.{lt-leb}
 use Rattle.blob.specs.declared.Verdict.the-variants as verdicts
 use Rattle.blob.specs.Reading.{run, many, verdict}
-use Rattle.blob.specs.Laws.{many-more, many-stop, many-none, run-fails}
+use Rattle.blob.specs.Laws.{many-more, many-stop, many-none, refused-value, run-fails}
 use Rattle.format.specs.Region.{until, inside}
 use Rattle.format.specs.Template.{templateAt, next}
 use Rattle.template.specs.Temp.{fine-template}
-use Rattle.template.specs.Templates.{is-refused, turns, turns-again, turns-next}
+use Rattle.template.specs.Templates.{turns, turns-again, turns-next}
 use Rattle.template.proofs.check_until.Statement.{statement}
 use Rattle.template.proofs.check_until.Tie as tie
 
@@ -34,7 +34,7 @@ returns-2 : tie.Need-returns-2 Inv-loop μ-loop
 returns-2 c =
     let k = c .before .before .before in
     let m = k .before .before .before .before in
-    sym (m .before .loop .inv .1 ∙ many-stop _ next _ _ _ _ (m .loop-test .taken) (is-refused _ _ (sym (c .before .found .given .1) ∙ k .check-temp .ensures)))
+    sym (m .before .loop .inv .1 ∙ many-stop _ next _ _ _ _ (m .loop-test .taken) (refused-value _ _ (sym (c .before .found .given .1) ∙ k .check-temp .ensures)))
 
 loop-less : tie.Need-loop-less Inv-loop μ-loop
 loop-less c = turns-next _ _ _ _ _ _ (c .before .before .before .before .before .before .loop-test .taken)
