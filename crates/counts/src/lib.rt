@@ -12,6 +12,7 @@ ghost use Rattle.format.specs.Table.{kindList};
 ghost use Rattle.counts.specs.Short.{widths, numbers, short};
 use blob::Refusal;
 use blob::Verdict;
+use format::Needed;
 use format::kind::EVNT;
 use format::kind::MAPS;
 use format::kind::TTBL;
@@ -31,6 +32,16 @@ pub fn row_of(kind: u32) -> usize
         MAPS => row::MAPS,
         TTBL => row::TEMPLATES,
         _ => row::DEFINITIONS,
+    }
+}
+
+// What a refusal says of the needs: that there are none.
+pub fn refused(r: Refusal) -> Needed
+    ensures { λ n. ⌜ n ≡ record { verdict = Verdict.Refused r; counts = area.none } ⌝ }
+{
+    Needed {
+        verdict: Verdict::Refused(r),
+        counts: [0; AREAS],
     }
 }
 

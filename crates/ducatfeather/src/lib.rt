@@ -2,22 +2,18 @@
 ghost use mathlib.Core.Path.{_≡_};
 ghost use mathlib.Core.List.{_∷_};
 ghost use lib.ListN.{length, getD};
-ghost use Rattle.blob.specs.Reading.{refused};
 ghost use Rattle.format.specs.Area.{AREAS};
 ghost use Rattle.format.specs.Answer as spec;
 ghost use Rattle.format.specs.Lookup as right;
 ghost use Rattle.format.specs.Call as call;
 ghost use Rattle.format.specs.Call.{called};
-use blob::Refusal;
 use format::Answer;
 use format::Guid;
 use format::GuidsFound;
 use format::Key;
+use format::LONGEST;
 use format::TemplateFound;
 use format::list::AREAS;
-
-// The longest lent bytes that are read.
-const LONGEST: usize = 16777216;
 
 // The numbers of an answer: code, field, place, first, second, and the counts.
 const NUMBERS: usize = 5 + AREAS;
@@ -32,28 +28,14 @@ fn for_lists(numbers: &[u32]) -> [u32; AREAS]
     all
 }
 
-// The answer that a refusal is.
-fn refuse(r: Refusal) -> Answer
-    ensures { λ a. ⌜ a ≡ spec.answer (refused r) ⌝ }
-{
-    Answer {
-        code: r.code,
-        field: r.field,
-        place: r.place,
-        first: r.first,
-        second: r.second,
-        counts: [0; AREAS],
-    }
-}
-
 // The answer where there is another number of capacities, or of numbers for the answer.
 fn refusal(blob: &[u8]) -> Answer
     ensures { λ r. ⌜ r ≡ spec.answer (call.misfit (now (blob .entry))) ⌝ }
 {
     if LONGEST < blob.len() {
-        return refuse(bounds::own(7));
+        return manifest::refuse(bounds::own(7));
     }
-    refuse(bounds::own(8))
+    manifest::refuse(bounds::own(8))
 }
 
 // The answer, with n numbers to store it in.

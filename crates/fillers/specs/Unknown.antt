@@ -12,6 +12,7 @@ use Rattle.blob.specs.declared.Verdict.the-variants as verdicts
 use Rattle.blob.specs.Reading.{done, run, verdict, values, choose}
 use Rattle.blob.specs.Laid.{laid, laid-more, flat}
 use Rattle.blob.specs.Laws.{same}
+use Rattle.format.specs.Area.{UNKNOWN, width}
 use Rattle.format.specs.Table.{kindOf}
 use Rattle.format.specs.Provider.{Element, descriptorAt, elementsFrom}
 use Rattle.format.specs.Lists.{unknowns, unknownWords}
@@ -31,7 +32,7 @@ wordsOf s number d = choose (eqb (kindOf (d .signature)) 0) (number ∷ d .signa
 -- the area once their words are laid from here, and where they then end
 abbrev pub Rest : ℕ → List Unknown → List Unknown → List ℕ → List ℕ → ℕ → ℕ → Type 0
 Rest number us vs area area' to to' =
-    (to + 4 * length us ≡ to' + 4 * length vs) × (laid area to (flat (unknownWords number) us) ≡ laid area' to' (flat (unknownWords number) vs))
+    (to + width UNKNOWN * length us ≡ to' + width UNKNOWN * length vs) × (laid area to (flat (unknownWords number) us) ≡ laid area' to' (flat (unknownWords number) vs))
 
 module _ (s : List ℕ) (left at : ℕ) (h : 0 < left) (d : Descriptor) (found : run (descriptorAt at) s ≡ done d) (v : verdict (run (elementsFrom left at) s) ≡ verdicts.Fine) where
   abbrev rest : List Element
@@ -52,13 +53,13 @@ module _ (s : List ℕ) (left at : ℕ) (h : 0 < left) (d : Descriptor) (found :
       let l = ap length (here k) in
       (unknown-fits s d (e .0) (e .1) rest k, omega (arith, l))
 
-  pub unknown-next : (number to to' : ℕ) (area area' : List ℕ) → area' ≡ laid area to (wordsOf s number d) → to' ≡ choose (eqb (kindOf (d .signature)) 0) (to + 4) to
+  pub unknown-next : (number to to' : ℕ) (area area' : List ℕ) → area' ≡ laid area to (wordsOf s number d) → to' ≡ choose (eqb (kindOf (d .signature)) 0) (to + width UNKNOWN) to
       → Rest number (unread s left at) (unknowns rest) area area' to to'
   unfolding flat laid
   unknown-next number to to' area area' g t = go (eqb (kindOf (d .signature)) 0) refl g t
     where
       go : (b : Bool) → eqb (kindOf (d .signature)) 0 ≡ b
-          → area' ≡ laid area to (choose b (number ∷ d .signature ∷ d .offset ∷ le 4 s (d .offset + 4) ∷ []) []) → to' ≡ choose b (to + 4) to
+          → area' ≡ laid area to (choose b (number ∷ d .signature ∷ d .offset ∷ le 4 s (d .offset + 4) ∷ []) []) → to' ≡ choose b (to + width UNKNOWN) to
           → Rest number (unread s left at) (unknowns rest) area area' to to'
       go true k g t =
           let u = here (eqb-true (kindOf (d .signature)) 0 k) in

@@ -57,18 +57,19 @@ pub fn fill_descriptors(b: &[u8], start: usize, n: u32, area: &mut [u32]) -> usi
 // Stores n unknown2 words.
 pub fn fill_unknown2(b: &[u8], start: usize, n: u32, area: &mut [u32]) -> usize
     requires { ⌜ start + 4 * n ≤ length (now b) ⌝ }
-    requires { ⌜ n ≤ length (now area) ⌝ }
-    ensures { λ r. ⌜ r ≡ n ⌝ }
+    requires { ⌜ width rows.UNKNOWN2 * n ≤ length (now area) ⌝ }
+    ensures { λ r. ⌜ r ≡ width rows.UNKNOWN2 * n ⌝ }
     ensures { λ _. ⌜ now (area .exit) ≡ laid (now (area .entry)) 0 (flat unknown2Words (values (run (many (number 4) (step 4) n start) (now (b .entry))))) ⌝ }
 {
     let mut at = start;
     let mut left = n;
     let mut to = 0;
     while 0 < left {
-        area[to] = blob::word(b, at);
+        let entry = [blob::word(b, at)];
+        words::put(area, to, &entry);
         at += 4;
         left -= 1;
-        to += 1;
+        to += width::UNKNOWN2;
     }
     to
 }

@@ -37,6 +37,10 @@ TEMPLATES = 9
 abbrev pub UNKNOWN : ℕ
 UNKNOWN = 10
 
+-- "list number 11", lent singly
+abbrev pub GUIDS : ℕ
+GUIDS = 11
+
 pub record Row : Type 0 where
   pub number : ℕ
   -- of an entry

@@ -9,7 +9,7 @@ use Rattle.blob.specs.Reading.{choose}
 use Rattle.blob.specs.Laid.{flat}
 use Rattle.format.specs.Area.{DEFINITIONS, EVENTS, MAPS, TEMPLATES, none, of, more}
 use Rattle.format.specs.Table.{kinds}
-use Rattle.format.specs.Map.{Mapped}
+use Rattle.format.specs.Map.{VALUE-MAP, Mapped}
 use Rattle.format.specs.Provider.{Rows, definitions, events, maps, templates, Table, Element, table, unknown, Provider}
 use Rattle.format.specs.declared.Guid.{Guid}
 use Rattle.format.specs.declared.Definition.{Definition}
@@ -57,7 +57,7 @@ eventWords e =
 abbrev pub mapWords : ℕ → Map → Entry
 mapWords before m =
     m .kind ∷ m .signature ∷ m .offset ∷ m .size ∷ m .string ∷ m .name .start ∷ m .name .units
-    ∷ choose (eqb (m .kind) 1) before 0 ∷ m .count ∷ m .start ∷ m .length ∷ []
+    ∷ choose (eqb (m .kind) VALUE-MAP) before 0 ∷ m .count ∷ m .start ∷ m .length ∷ []
 
 -- "8 map entries | 2 | identifier, message"
 abbrev pub mapEntryWords : MapEntry → Entry

@@ -8,7 +8,7 @@ use lib.ListN.{length, getD, take, drop}
 use lib.Dec.{leb, ltb, eqb}
 use Rattle.blob.specs.Reading.{Outcome, done, refused, choose, answer}
 use Rattle.blob.specs.Laid.{laid, flat}
-use Rattle.format.specs.Area.{PROVIDERS, TABLES, EVENTS, TEMPLATES, rows, place, width, of}
+use Rattle.format.specs.Area.{PROVIDERS, TABLES, EVENTS, TEMPLATES, GUIDS, rows, place, width, of}
 use Rattle.format.specs.Entry.{TABLE-PROVIDER, TABLE-KIND, TABLE-FIRST, TABLE-COUNT, GUID, KEY, EVENT-TEMPLATE, TEMPLATE-OFFSET, TEMPLATE-GUID}
 use Rattle.format.specs.Table.{EVNT, TTBL, kindList}
 use Rattle.format.specs.Lists.{Entry, guidWords}
@@ -125,7 +125,7 @@ byKey words capacities counts key lent =
     let found = guidsOf words capacities counts key in
     choose (lent-enough capacities words && leb capacity 65536)
     (choose (counts-fit counts capacities && tablesFit counts (entriesOf words capacities counts TABLES))
-    (choose (leb (length found) capacity) (done found) (refused (too-small 11 capacity)))
+    (choose (leb (length found) capacity) (done found) (refused (too-small GUIDS capacity)))
     (refused (own 10)))
     (refused (own 8))
 

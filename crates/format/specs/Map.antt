@@ -16,6 +16,16 @@ use Rattle.format.specs.declared.MapRead.{MapRead}
 use Rattle.format.specs.declared.MapRead.the-variants as read
 use Rattle.format.specs.declared.MapEntry.{MapEntry}
 
+-- kinds of maps: "1 VMAP, 2 BMAP or 3 other" (the lists)
+abbrev pub VALUE-MAP : ℕ
+VALUE-MAP = 1
+
+abbrev pub BIT-MAP : ℕ
+BIT-MAP = 2
+
+abbrev pub OTHER-MAP : ℕ
+OTHER-MAP = 3
+
 -- a map, with its entries
 pub record Mapped : Type 0 where
   pub map : Map
@@ -54,7 +64,7 @@ valueMapAt region at =
     got (record {
       map =
           record {
-            kind = 1;
+            kind = VALUE-MAP;
             signature = VMAP;
             offset = at;
             size = size;
@@ -78,7 +88,7 @@ otherMap region at signature =
     record {
       map =
           record {
-            kind = choose (eqb signature BMAP) 2 3;
+            kind = choose (eqb signature BMAP) BIT-MAP OTHER-MAP;
             signature = signature;
             offset = at;
             size = 0;

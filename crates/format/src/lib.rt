@@ -9,6 +9,9 @@ pub mod kind;
 pub mod list;
 pub mod signature;
 
+// The longest lent bytes that are read.
+pub const LONGEST: usize = 16777216;
+
 // A GUID: its 16 bytes as little-endian words.
 pub struct Guid {
     pub a: u32,

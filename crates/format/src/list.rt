@@ -48,6 +48,9 @@ pub const TEMPLATES: u32 = 9;
 
 pub const UNKNOWN: u32 = 10;
 
+// Lent singly, and so without a row.
+pub const GUIDS: u32 = 11;
+
 // Which row is a list's: where its number stands among those of all lists.
 pub mod row {
     pub const PROVIDERS: usize = 0;

@@ -12,7 +12,7 @@ use lib.Dec.{eqb, leb}
 use borrow.Author.Tests.{eq-eqb, ne-eqb, le-leb, lt-leb}
 use Rattle.blob.specs.Reading.{Outcome, done, refused, choose}
 use Rattle.blob.specs.Laid.{laid, laid-more, flat, flat-map}
-use Rattle.format.specs.Area.{EVENTS, TEMPLATES, place, width}
+use Rattle.format.specs.Area.{EVENTS, TEMPLATES, GUIDS, place, width}
 use Rattle.format.specs.Entry.{GUID, KEY, EVENT-TEMPLATE, TEMPLATE-GUID}
 use Rattle.format.specs.Table.{EVNT, TTBL}
 use Rattle.format.specs.Answer.{too-small}
@@ -108,7 +108,7 @@ behind events list (nexts.Template n rest) =
 
 -- GUIDs, where a lent list has room for them; else 9
 abbrev pub roomFor : List ℕ → List Entry → Outcome (List Entry)
-roomFor lent gs = choose (leb (length gs) (length lent / GUID)) (done gs) (refused (too-small 11 (length lent / GUID)))
+roomFor lent gs = choose (leb (length gs) (length lent / GUID)) (done gs) (refused (too-small GUIDS (length lent / GUID)))
 
 -- What an event gives, by what was tested of it: another key, no offset, or a template.
 module _ (words : List ℕ) (templates : Run) (key : List ℕ) (at : ℕ) (k : length key ≡ KEY) where
@@ -237,7 +237,7 @@ module _ (words : List ℕ) (list templates : Run) (key : List ℕ) (events : Ru
   counted : length (guidsBy words list templates key events) ≡ length (givenBy words list templates key events)
   counted = length-map (givenBy words list templates key events) (guidOf words list)
 
-  pub give-short : length lent / GUID < n → roomFor lent (guidsBy words list templates key events) ≡ refused (too-small 11 (length lent / GUID))
+  pub give-short : length lent / GUID < n → roomFor lent (guidsBy words list templates key events) ≡ refused (too-small GUIDS (length lent / GUID))
   give-short h =
       let l : length lent / GUID < length (guidsBy words list templates key events) = omega (arith, counted) in
       rw (lt-leb _ _ l)

@@ -19,6 +19,7 @@ use format::entry::EVENT_TEMPLATE;
 use format::entry::GUID;
 use format::entry::TEMPLATE_GUID;
 use format::kind;
+use format::list;
 use format::list::AREAS;
 use format::list::MOST;
 use format::list::row;
@@ -239,7 +240,7 @@ fn give(
             code: 9,
             field: 0,
             place: 0,
-            first: 11,
+            first: list::GUIDS as u64,
             second: capacity as u64,
         });
     }

@@ -16,22 +16,10 @@ use blob::Verdict;
 use format::Answer;
 use format::CrimHeader;
 use format::CrimRead;
+use format::LONGEST;
 use format::Needed;
 use format::field::CRIM_PROVIDER_DESCRIPTOR_ARRAY;
 use format::list::AREAS;
-
-// The longest lent bytes that are read.
-const LONGEST: usize = 16777216;
-
-// What a refusal of the block says of the needs.
-fn refused(r: Refusal) -> Needed
-    ensures { λ n. ⌜ n ≡ record { verdict = Verdict.Refused r; counts = none } ⌝ }
-{
-    Needed {
-        verdict: Verdict::Refused(r),
-        counts: [0; AREAS],
-    }
-}
 
 // Whether n providers are fine, each finished before the next is read, and what each list needs for them.
 fn check(b: &[u8], n: u32) -> Needed
@@ -44,7 +32,7 @@ fn check(b: &[u8], n: u32) -> Needed
         let found = provider::check(b, p.at, needs);
         let verdict = found.verdict;
         if let Verdict::Refused(r) = verdict {
-            return refused(r);
+            return counts::refused(r);
         }
         needs = found.counts;
         p = p.next();
@@ -70,7 +58,7 @@ fn accept(h: CrimHeader, needs: [u32; AREAS]) -> Answer
 }
 
 // The answer that a refusal is.
-fn refuse(r: Refusal) -> Answer
+pub fn refuse(r: Refusal) -> Answer
     ensures { λ a. ⌜ a ≡ spec.answer (refused r) ⌝ }
 {
     Answer {
@@ -113,7 +101,12 @@ fn check_block(b: &[u8], h: CrimHeader) -> Needed
 {
     let bytes = 20 * (h.count as usize);
     if b.len() - 16 < bytes {
-        return refused(bounds::truncated(b.len(), CRIM_PROVIDER_DESCRIPTOR_ARRAY, 16, bytes));
+        return counts::refused(bounds::truncated(
+            b.len(),
+            CRIM_PROVIDER_DESCRIPTOR_ARRAY,
+            16,
+            bytes,
+        ));
     }
     check(b, h.count)
 }

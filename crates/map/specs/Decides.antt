@@ -19,7 +19,7 @@ use Rattle.format.specs.Refuse.{truncated, size-out, offset-out}
 use Rattle.format.specs.Region.{blob-end, until, against, inside}
 use Rattle.format.specs.Name.{nameAt}
 use Rattle.format.specs.Definition.{step}
-use Rattle.format.specs.Map.{Mapped, VMAP, few, entryAt, valueMapAt, otherMap, mapAt, mapRead}
+use Rattle.format.specs.Map.{VALUE-MAP, Mapped, VMAP, few, entryAt, valueMapAt, otherMap, mapAt, mapRead}
 use Rattle.format.specs.declared.Name.{Name}
 use Rattle.format.specs.declared.Map.{Map}
 use Rattle.format.specs.declared.MapEntry.{MapEntry}
@@ -30,7 +30,7 @@ use Rattle.format.specs.declared.MapRead.the-variants as read
 abbrev pub valueMap : (at size string count : ℕ) → Name → Map
 valueMap at size string count name =
     record {
-      kind = 1;
+      kind = VALUE-MAP;
       signature = VMAP;
       offset = at;
       size = size;

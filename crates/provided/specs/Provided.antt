@@ -4,7 +4,6 @@ use mathlib.Core.Path.{_≡_, refl, ap, ap₂, sym, _∙_, subst}
 use mathlib.Core.Bool.{false}
 use mathlib.Core.List.{List, [], _∷_}
 use native.Mathlib.Omega.{arith}
-use native.Mathlib.Nat.{one-mul}
 use lib.ListN.{length}
 use lib.Dec.{eqb}
 use borrow.Author.Tests.{ne-eqb}
@@ -122,31 +121,31 @@ module _ (at : ℕ) (s : List ℕ) (v : verdict (run (describedAt at) s) ≡ ver
           λ k area' c g. record { count = c ∙ sym (ap length p); behind-is = sym b; area-is = g ∙ sym (ap (laid area 0) p) },
         )
 
-    pub filled-1 : (g : Guid) → run (guidAt at) s ≡ done g
+    pub filled-providers : (g : Guid) → run (guidAt at) s ≡ done g
         → Filled PROVIDERS (g .a ∷ g .b ∷ g .c ∷ g .d ∷ le 4 s (at + 16) ∷ h .size ∷ h .message ∷ h .descriptors ∷ h .unknown2 ∷ [])
     unfolding part
-    filled-1 g q =
+    filled-providers g q =
         let x = given in
         let e : provided at s v .0 .guid ≡ g = same _ _ (sym (provided at s v .2 .guid) ∙ q) in
         plain PROVIDERS _ refl refl (rw (e, x .offset, x .size, x .message, many-count descriptorAt (step 8) _ _ s _ (x .descriptors), many-count (number 4) (step 4) _ _ s _ (x .unknown2)) refl)
 
-    pub filled-2 : Filled DESCRIPTORS (flat descriptorWords (values (run (many descriptorAt (step 8) (h .descriptors) (le 4 s (at + 16) + 20)) s)))
+    pub filled-descriptors : Filled DESCRIPTORS (flat descriptorWords (values (run (many descriptorAt (step 8) (h .descriptors) (le 4 s (at + 16) + 20)) s)))
         × (length (flat descriptorWords (values (run (many descriptorAt (step 8) (h .descriptors) (le 4 s (at + 16) + 20)) s))) ≡ width DESCRIPTORS * h .descriptors)
     unfolding part
-    filled-2 =
+    filled-descriptors =
         let x = given in
         rw (x .descriptors) (plain DESCRIPTORS _ refl refl refl, length-flat descriptorWords (width DESCRIPTORS) (λ d. refl) (provided at s v .0 .descriptors) ∙ ap (λ m. width DESCRIPTORS * m) (many-count descriptorAt (step 8) _ _ s _ (x .descriptors)))
 
-    pub filled-3 : Filled UNKNOWN2 (flat unknown2Words (values (run (many (number 4) (step 4) (h .unknown2) (le 4 s (at + 16) + 20 + 8 * h .descriptors)) s)))
-        × (length (flat unknown2Words (values (run (many (number 4) (step 4) (h .unknown2) (le 4 s (at + 16) + 20 + 8 * h .descriptors)) s))) ≡ h .unknown2)
+    pub filled-unknown2 : Filled UNKNOWN2 (flat unknown2Words (values (run (many (number 4) (step 4) (h .unknown2) (le 4 s (at + 16) + 20 + 8 * h .descriptors)) s)))
+        × (length (flat unknown2Words (values (run (many (number 4) (step 4) (h .unknown2) (le 4 s (at + 16) + 20 + 8 * h .descriptors)) s))) ≡ width UNKNOWN2 * h .unknown2)
     unfolding part
-    filled-3 =
+    filled-unknown2 =
         let x = given in
-        rw (x .unknown2) (plain UNKNOWN2 _ refl refl refl, length-flat unknown2Words 1 (λ d. refl) (provided at s v .0 .unknown2) ∙ one-mul _ ∙ many-count (number 4) (step 4) _ _ s _ (x .unknown2))
+        rw (x .unknown2) (plain UNKNOWN2 _ refl refl refl, length-flat unknown2Words (width UNKNOWN2) (λ d. refl) (provided at s v .0 .unknown2) ∙ ap (λ m. width UNKNOWN2 * m) (many-count (number 4) (step 4) _ _ s _ (x .unknown2)))
 
-    pub filled-10 : Filled UNKNOWN (flat (unknownWords n) (unknowns elements)) × (length (flat (unknownWords n) (unknowns elements)) ≡ width UNKNOWN * length (unknowns elements))
+    pub filled-unknown : Filled UNKNOWN (flat (unknownWords n) (unknowns elements)) × (length (flat (unknownWords n) (unknowns elements)) ≡ width UNKNOWN * length (unknowns elements))
     unfolding part
-    filled-10 = let x = given in rw (x .elements) (plain UNKNOWN _ refl refl refl, length-flat (unknownWords n) (width UNKNOWN) (λ u. refl) (unknowns (provided at s v .0 .elements)))
+    filled-unknown = let x = given in rw (x .elements) (plain UNKNOWN _ refl refl refl, length-flat (unknownWords n) (width UNKNOWN) (λ u. refl) (unknowns (provided at s v .0 .elements)))
 
     -- a list that goes over the tables
     pub filled-tables : (l : ℕ) → (l ≡ PROVIDERS → ⊥) → (l ≡ DESCRIPTORS → ⊥) → (l ≡ UNKNOWN2 → ⊥) → (l ≡ UNKNOWN → ⊥)

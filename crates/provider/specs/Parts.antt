@@ -19,6 +19,7 @@ use Rattle.format.specs.Refuse.{whole}
 use Rattle.format.specs.Definition.{guidAt, step}
 use Rattle.format.specs.Provider.{Element, wevtAt, wevtRead, descriptorAt, elementAt, elementsFrom, providerAt}
 use Rattle.format.specs.Crim.{describedAt}
+use Rattle.format.specs.Area.{PROVIDERS, DESCRIPTORS, UNKNOWN2, place}
 use Rattle.format.specs.Answer.{capped}
 use Rattle.format.specs.steps.Needs.{plus, providerRead}
 use Rattle.format.specs.declared.Guid.{Guid}
@@ -29,8 +30,8 @@ use Rattle.format.specs.declared.Needed.{Needed}
 use Rattle.element.specs.Counted.{needsOf, neededFor}
 
 -- what each list needs for a provider with such a header, whose elements need so much
-abbrev pub own : List ℕ → Wevt → List ℕ
-own elements w = set (set (set elements 0 1) 1 (w .descriptors)) 2 (w .unknown2)
+abbrev pub with-own : List ℕ → Wevt → List ℕ
+with-own elements w = set (set (set elements (place PROVIDERS) 1) (place DESCRIPTORS) (w .descriptors)) (place UNKNOWN2) (w .unknown2)
 
 -- what the answers tell of their readings
 is-wevt : (o : Outcome Wevt) (w : Wevt) → wevt.Wevt w ≡ wevtRead o → o ≡ done w
@@ -163,7 +164,7 @@ module _ (s : List ℕ) (at offset : ℕ) (o : offset ≡ le 4 s (at + 16)) wher
               )
 
           pub provider-found : (needs : List ℕ) (n : Needed) → n ≡ neededFor (run (elementsFrom (w .descriptors) (offset + 20)) s) → n .verdict ≡ verdicts.Fine
-              → record { verdict = verdicts.Fine; counts = plus needs (own (n .counts) w) } ≡ providerRead needs (run (describedAt at) s)
+              → record { verdict = verdicts.Fine; counts = plus needs (with-own (n .counts) w) } ≡ providerRead needs (run (describedAt at) s)
           provider-found needs n v e =
               let f = is-needed (run (elementsFrom (w .descriptors) (offset + 20)) s) n v e in
               let d = many-count descriptorAt (step 8) _ _ s _ descriptors in

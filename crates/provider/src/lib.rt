@@ -3,14 +3,12 @@ ghost use mathlib.Core.Path.{_≡_};
 ghost use Prim.Native.Nat.{_+_, _*_, _≤_};
 ghost use lib.ListN.{length};
 ghost use Rattle.blob.specs.Reading.{run, many, verdict};
-ghost use Rattle.format.specs.Area.{none};
 ghost use Rattle.format.specs.Definition.{step};
 ghost use Rattle.format.specs.Provider as spec;
 ghost use Rattle.format.specs.Crim.{describedAt};
 ghost use Rattle.format.specs.steps.Needs.{modest, plus, providerRead};
 ghost use Rattle.provider.specs.Wevt as wevt;
-ghost use Rattle.provider.specs.Parts.{own};
-use blob::Refusal;
+ghost use Rattle.provider.specs.Parts.{with-own};
 use blob::Verdict;
 use format::Needed;
 use format::Wevt;
@@ -90,20 +88,10 @@ fn check_descriptors(b: &[u8], start: usize, n: u32) -> Verdict
     Verdict::Fine
 }
 
-// A refusal of a part of a provider.
-fn refused(r: Refusal) -> Needed
-    ensures { λ n. ⌜ n ≡ record { verdict = Verdict.Refused r; counts = none } ⌝ }
-{
-    Needed {
-        verdict: Verdict::Refused(r),
-        counts: [0; AREAS],
-    }
-}
-
 // What is needed with a provider that has such a header, and whose elements need so much.
 fn with_own(needs: [u32; AREAS], elements: [u32; AREAS], w: Wevt) -> [u32; AREAS]
     requires { ⌜ modest needs ⌝ }
-    ensures { λ r. ⌜ r ≡ plus needs (own elements w) ⌝ }
+    ensures { λ r. ⌜ r ≡ plus needs (with-own elements w) ⌝ }
 {
     let mut all = elements;
     all[row::PROVIDERS] = 1;
@@ -119,7 +107,7 @@ pub fn check(b: &[u8], at: usize, needs: [u32; AREAS]) -> Needed
 {
     let offset = blob::word(b, at + 16) as usize;
     let w = match wevt_at(b, offset) {
-        WevtRead::Refused(r) => return refused(r),
+        WevtRead::Refused(r) => return counts::refused(r),
         WevtRead::Wevt(w) => w,
     };
     let start = offset + 20;
@@ -129,10 +117,10 @@ pub fn check(b: &[u8], at: usize, needs: [u32; AREAS]) -> Needed
         start,
         8 * (w.descriptors as usize),
     ) {
-        return refused(r);
+        return counts::refused(r);
     }
     if let Verdict::Refused(r) = check_descriptors(b, start, w.descriptors) {
-        return refused(r);
+        return counts::refused(r);
     }
     let words = start + 8 * (w.descriptors as usize);
     if let Verdict::Refused(r) = bounds::whole(
@@ -141,12 +129,12 @@ pub fn check(b: &[u8], at: usize, needs: [u32; AREAS]) -> Needed
         words,
         4 * (w.unknown2 as usize),
     ) {
-        return refused(r);
+        return counts::refused(r);
     }
     let e = element::check(b, start, w.descriptors);
     let verdict = e.verdict;
     if let Verdict::Refused(r) = verdict {
-        return refused(r);
+        return counts::refused(r);
     }
     let elements = e.counts;
     Needed {

@@ -10,7 +10,7 @@ use Rattle.format.specs.Table.{CHAN, LEVL}
 use Rattle.format.specs.Entry.{TABLE-FIRST}
 use Rattle.format.specs.Map.{Mapped}
 use Rattle.format.specs.Provider.{Rows, definitions, events, maps, templates, Element, table, unknown}
-use Rattle.format.specs.Area.{MAPS, rows, none, more}
+use Rattle.format.specs.Area.{MAPS, GUIDS, rows, none, more}
 use Rattle.format.specs.Lists.{Entry, Owned, lastOf, kept, mapList, tableEntries}
 use Rattle.format.specs.Answer.{areas, filled, moderate, own, too-small, with-room}
 use Rattle.format.specs.Lookup.{alike, among, byKey, byOffset, counts-fit, entriesFrom, guidsHeld, guidsOf, once, position, select, tableFits, tablesFit, wordOf}
@@ -138,7 +138,7 @@ another-key : lookup 8 2 [] ≡ done []
 unfolding byKey guidsOf moderate areas counts-fit entriesFrom position tablesFit select alike among once flat
 another-key = refl
 
-no-room : lookup 8 1 (replicate 3 0) ≡ refused (too-small 11 0)
+no-room : lookup 8 1 (replicate 3 0) ≡ refused (too-small GUIDS 0)
 unfolding byKey guidsOf moderate areas counts-fit entriesFrom position tablesFit select alike among once flat
 no-room = refl
 

@@ -1,5 +1,5 @@
--- Where the walk over all providers comes out, in the lists' numbers: so where each list has at most 65,536 entries, every number on the
--- way is at most that, and the words stored are those of the list.
+-- What is written in each list behind all providers: so where each list has at most 65,536 entries, every number on the way is at most
+-- that, and the words stored are those of the list.
 use Prim.{tt}
 use Prim.Native.Nat.{ℕ, zero, suc, _+_, _*_, _≤_, _<_}
 use mathlib.Core.Path.{_≡_, refl, ap, sym, _∙_}
@@ -12,7 +12,7 @@ use lib.Dec.{eqb}
 use lib.ListN.{length, getD, length-append}
 use Rattle.blob.specs.Places.{Each}
 use Rattle.blob.specs.Laid.{flat, flat-single, flat-flat}
-use Rattle.format.specs.Area.{TABLES, MAPS, rows, none}
+use Rattle.format.specs.Area.{PROVIDERS, DESCRIPTORS, UNKNOWN2, TABLES, DEFINITIONS, EVENTS, MAPS, ENTRIES, TEMPLATES, UNKNOWN, rows, place, width, none}
 use Rattle.format.specs.Map.{Mapped}
 use Rattle.format.specs.Provider.{Rows, Table, Provider}
 use Rattle.format.specs.Lists.{Entry, providerWords, descriptorWords, unknown2Words, definitionWords, eventWords, mapEntryWords, templateWords, unknownWords, kept, unknowns, Owned, ownedTables, ownedUnknowns, after, tableEntries, definitionsIn, eventsIn, mapsIn, templatesIn, mapList, lists}
@@ -41,20 +41,20 @@ wide-map : {B : Type 0} (k : ℕ) (words : B → Entry) → ((b : B) → length 
 wide-map k words h [] = empty
 wide-map k words h (x ∷ xs) = more (h x) (wide-map k words h xs)
 
-wide-tables : (w : List ℕ) (os : List Owned) → Wide 9 (tableEntries w os)
+wide-tables : (w : List ℕ) (os : List Owned) → Wide (width TABLES) (tableEntries w os)
 unfolding tableEntries
 wide-tables w [] = empty
 wide-tables w (o ∷ os) = more refl (wide-tables (after w (o .table .rows)) os)
 
-wide-maps : (n : ℕ) (ms : List Mapped) → Wide 11 (mapList n ms)
+wide-maps : (n : ℕ) (ms : List Mapped) → Wide (width MAPS) (mapList n ms)
 unfolding mapList
 wide-maps n [] = empty
 wide-maps n (m ∷ ms) = more refl (wide-maps (n + length (m .entries)) ms)
 
-wide-unknowns : (n : ℕ) (ps : List Provider) → Wide 4 (ownedUnknowns n ps)
+wide-unknowns : (n : ℕ) (ps : List Provider) → Wide (width UNKNOWN) (ownedUnknowns n ps)
 unfolding ownedUnknowns
 wide-unknowns n [] = empty
-wide-unknowns n (p ∷ ps) = wide-append (wide-map 4 (unknownWords n) (λ u. refl) (unknowns (p .elements))) (wide-unknowns (suc n) ps)
+wide-unknowns n (p ∷ ps) = wide-append (wide-map (width UNKNOWN) (unknownWords n) (λ u. refl) (unknowns (p .elements))) (wide-unknowns (suc n) ps)
 
 -- the words of an entry, by its list's row
 abbrev pub words : ℕ → ℕ
@@ -63,23 +63,23 @@ words i = getD (map (λ r. r .words) rows) i 0
 pub lists-wide : (ps : List Provider) (i : ℕ) → i < length rows → Wide (words i) (getD (lists ps) i [])
 lists-wide ps =
     rw (lists-itemized ps) (first (λ i. Wide (words i) (getD (itemized ps) i [])) (length rows) (
-      wide-map 9 providerWords (λ p. refl) (flat (λ p. p ∷ []) ps),
+      wide-map (width PROVIDERS) providerWords (λ p. refl) (flat (λ p. p ∷ []) ps),
       (
-        wide-map 3 descriptorWords (λ d. refl) (flat (λ p. p .descriptors) ps),
+        wide-map (width DESCRIPTORS) descriptorWords (λ d. refl) (flat (λ p. p .descriptors) ps),
         (
-          wide-map 1 unknown2Words (λ w. refl) (flat (λ p. p .unknown2) ps),
+          wide-map (width UNKNOWN2) unknown2Words (λ w. refl) (flat (λ p. p .unknown2) ps),
           (
             wide-tables none (ownedTables 0 ps),
             (
-              wide-map 12 definitionWords (λ d. refl) (flat (of-tables definitionsIn) ps),
+              wide-map (width DEFINITIONS) definitionWords (λ d. refl) (flat (of-tables definitionsIn) ps),
               (
-                wide-map 16 eventWords (λ e. refl) (flat (of-tables eventsIn) ps),
+                wide-map (width EVENTS) eventWords (λ e. refl) (flat (of-tables eventsIn) ps),
                 (
                   wide-maps 0 (flat (of-tables mapsIn) ps),
                   (
-                    wide-map 2 mapEntryWords (λ e. refl) (flat (of-tables entriesIn) ps),
+                    wide-map (width ENTRIES) mapEntryWords (λ e. refl) (flat (of-tables entriesIn) ps),
                     (
-                      wide-map 12 templateWords (λ t. refl) (flat (of-tables templatesIn) ps),
+                      wide-map (width TEMPLATES) templateWords (λ t. refl) (flat (of-tables templatesIn) ps),
                       (wide-unknowns 0 ps, tt),
                     ),
                   ),
@@ -105,7 +105,7 @@ few-uncapped (n ∷ ns) h =
 pub few-needed : (ps : List Provider) → Few (needsAll none ps) → needsAll none ps ≡ counted (lists ps)
 few-needed ps h = needed ps ∙ few-uncapped (counted (lists ps)) (rw (needed ps) at h)
 
--- Where a walk has counted all providers' tables, no number is over that of its list.
+-- Behind all providers' tables no number is over that of its list.
 abbrev pub tables : List Provider → List Table
 tables ps = flat (λ p. kept (p .elements)) ps
 
@@ -161,14 +161,14 @@ module _ (ps : List Provider) (f : Few (counted (lists ps))) where
                 (
                   none-few,
                   (
-                    few-of 4 (of-tables definitionsIn) refl,
+                    few-of (place DEFINITIONS) (of-tables definitionsIn) refl,
                     (
-                      few-of 5 (of-tables eventsIn) refl,
+                      few-of (place EVENTS) (of-tables eventsIn) refl,
                       (
-                        few-of 6 (of-tables mapsIn) refl,
+                        few-of (place MAPS) (of-tables mapsIn) refl,
                         (
                           none-few,
-                          (few-of 8 (of-tables templatesIn) refl, (none-few, tt)),
+                          (few-of (place TEMPLATES) (of-tables templatesIn) refl, (none-few, tt)),
                         ),
                       ),
                     ),
@@ -194,7 +194,7 @@ module _ (ps : List Provider) (f : Few (counted (lists ps))) where
                       (
                         none-few,
                         (
-                          few-of 7 (of-tables entriesIn) refl,
+                          few-of (place ENTRIES) (of-tables entriesIn) refl,
                           (none-few, (none-few, tt)),
                         ),
                       ),

@@ -10,16 +10,16 @@ use lib.ListN.{length, getD, take, drop, length-set, length-map, length-append}
 use lib.Seq.{getD-set-same}
 use lib.Dec.{leb, eqb}
 use borrow.Author.Tests.{lt-ltb, le-leb}
-use Rattle.blob.specs.Reading.{done, refused, choose}
+use Rattle.blob.specs.Reading.{Outcome, done, refused, choose}
 use Rattle.blob.specs.Laws.{choose-done}
 use Rattle.blob.specs.Laid.{flat, flat-map}
-use Rattle.format.specs.Area.{PROVIDERS, TABLES, EVENTS, TEMPLATES, Row, rows, place, none, of}
+use Rattle.format.specs.Area.{PROVIDERS, TABLES, EVENTS, TEMPLATES, GUIDS, Row, rows, place, none, of}
 use Rattle.format.specs.Entry.{GUID, EVENT-TEMPLATE, TEMPLATE-OFFSET, TEMPLATE-GUID}
 use Rattle.format.specs.Table.{EVNT, TTBL}
 use Rattle.format.specs.Provider.{Rows, definitions, events, maps, templates, Table, Provider}
-use Rattle.format.specs.Crim.{Crim}
+use Rattle.format.specs.Crim.{Crim, crim}
 use Rattle.format.specs.Lists.{Entry, kept, Owned, ownedTables, listOf, rowCount, after, tableEntries, guidWords, providerWords, eventWords, templateWords, eventsIn, templatesIn, lists}
-use Rattle.format.specs.Answer.{own, too-small, lent-enough, with-room, reading, counted, held}
+use Rattle.format.specs.Answer.{own, too-small, lent-enough, with-room, reading, counted, answer, held, Allowed}
 use Rattle.format.specs.Lookup.{entriesOf, wordOf, counts-fit, select, position, numbered, byOffset, alike, once, tablesFit, ownedBy, keyed, guidAtOffset, guidsOf, byKey}
 use Rattle.format.specs.Join.{those, the-first, eventsOf, templatesOf, asked, templateGuid, join}
 use Rattle.format.specs.steps.Parts.{behindAll}
@@ -28,8 +28,10 @@ use Rattle.format.specs.theorems.Listed.{owned, lists-itemized, first}
 use Rattle.format.specs.theorems.Needed.{mapList-length}
 use Rattle.format.specs.theorems.Fits.{tables, tables-end}
 use Rattle.format.specs.theorems.Known.{All, Known, Sound, owned-known, known}
+use Rattle.format.specs.theorems.Codes.{refused-code}
 use Rattle.format.specs.theorems.Taken.{read, filled-length, taken}
 use Rattle.format.specs.theorems.Ranges.{events-range, templates-range}
+use Rattle.format.specs.declared.Answer.{Answer}
 use Rattle.format.specs.declared.Key.{Key}
 use Rattle.format.specs.declared.Template.{Template}
 use Rattle.format.specs.declared.TemplateFound.the-variants as template
@@ -207,6 +209,26 @@ module _ (bytes words capacities : List ℕ) (c : Crim) (e : reading bytes words
   pub key-joins : (key : Key) (lent : List ℕ) → byKey (held words capacities (done c)) capacities (counted (lists (c .providers))) key lent
       ≡ (let capacity = length lent / GUID in
       let found = join (c .providers) key in
-      choose (leb capacity 65536) (choose (leb (length found) capacity) (done found) (refused (too-small 11 capacity))) (refused (own 8)))
+      choose (leb capacity 65536) (choose (leb (length found) capacity) (done found) (refused (too-small GUIDS capacity))) (refused (own 8)))
   unfolding byKey
   key-joins key lent = rw (lent-still, counts-room, tables-join, guids-here key)
+
+-- The same in the terms of what `read` promises: where its answer is 0, the bytes are a block, and a lookup over the words that it leaves
+-- and the numbers that it tells gives the join of what the block holds.
+module _ (bytes words capacities : List ℕ) (a : Answer) (after : List ℕ) where
+  abbrev Joined : Type 0
+  Joined =
+      (c : Crim)
+      × (crim bytes ≡ done c)
+      × ((key : Key) (lent : List ℕ) → byKey after capacities (a .counts) key lent
+      ≡ (let capacity = length lent / GUID in
+      let found = join (c .providers) key in
+      choose (leb capacity 65536) (choose (leb (length found) capacity) (done found) (refused (too-small GUIDS capacity))) (refused (own 8))))
+
+  pub accepted-joins : Allowed bytes words capacities a after → a .code ≡ 0 → length capacities ≡ length rows → Joined
+  unfolding answer
+  accepted-joins h z n = go (reading bytes words capacities) refl
+    where
+      go : (o : Outcome Crim) → reading bytes words capacities ≡ o → Joined
+      go (done c) e = (c, read bytes words capacities c e .found, λ key lent. rw (h .kept, h .answered, e) (key-joins bytes words capacities c e n key lent))
+      go (refused r) e = absurd (let q : a .code ≡ r .code = rw (h .answered, e) refl in omega (arith, refused-code bytes words capacities r e))

@@ -1,4 +1,4 @@
--- Filling by Parts is what Lists says: the words of a list are those that the walk stores, provider by provider and table by table.
+-- Filling by Parts is what Lists says: the words of a list are those that are stored, provider by provider and table by table.
 use Prim.{Unit, tt}
 use Prim.Native.Nat.{ℕ, zero, suc, _+_, _<_}
 use mathlib.Core.Path.{_≡_, refl, ap, sym, _∙_}
