@@ -1,5 +1,5 @@
 //! The original's answer to a blob, in the port's form: a code, a field code, a
-//! place, two numbers and ten lists of 32-bit words.
+//! place, two numbers and lists of 32-bit words (`lists.rs`).
 
 use std::fmt;
 
@@ -12,12 +12,15 @@ use original::wevt_templates::manifest::{
 
 pub mod fields;
 pub mod joins;
+pub mod lists;
+
+use lists::{
+    DEFINITIONS, DESCRIPTORS, EVENTS, LISTS, MAP_ENTRIES, MAPS, PROVIDERS, ROWS, TABLES, TEMPLATES,
+    UNKNOWN_ELEMENTS, UNKNOWN2, row_of,
+};
 
 /// The longest blob that is read; a longer one is code 7, the port's own.
 pub const LONGEST: usize = 16_777_216;
-
-/// The words of one entry of each list.
-pub const WORDS: [usize; 10] = [9, 3, 1, 9, 12, 16, 11, 2, 12, 4];
 
 #[derive(Clone, Debug, Default, PartialEq, Eq)]
 pub struct Answer {
@@ -26,14 +29,20 @@ pub struct Answer {
     pub place: u32,
     pub first: u64,
     pub second: u64,
-    /// All words of lists 1 to 10; empty on a refusal.
-    pub lists: [Vec<u32>; 10],
+    /// All words of each list, in the order of `ROWS`; empty on a refusal.
+    pub lists: [Vec<u32>; LISTS],
 }
 
 impl Answer {
     /// How many entries each list has.
-    pub fn counts(&self) -> [usize; 10] {
-        std::array::from_fn(|i| self.lists[i].len() / WORDS[i])
+    pub fn counts(&self) -> [usize; LISTS] {
+        std::array::from_fn(|i| self.lists[i].len() / ROWS[i].words)
+    }
+
+    /// The entries of the list with a number.
+    pub fn entries(&self, list: u32) -> impl Iterator<Item = &[u32]> {
+        let row = row_of(list);
+        self.lists[row].chunks_exact(ROWS[row].words)
     }
 }
 
@@ -47,8 +56,8 @@ impl fmt::Display for Answer {
         }
         writeln!(f)?;
         if self.code == 0 {
-            for (list, number) in self.lists.iter().zip(1..) {
-                write!(f, "list {number}")?;
+            for (list, row) in self.lists.iter().zip(ROWS) {
+                write!(f, "list {}", row.number)?;
                 for word in list {
                     write!(f, " {word}")?;
                 }
@@ -135,18 +144,6 @@ fn acceptance(manifest: &CrimManifest) -> Answer {
     }
 }
 
-// The lists' numbers.
-const PROVIDERS: usize = 1;
-const DESCRIPTORS: usize = 2;
-const UNKNOWN2: usize = 3;
-const TABLES: usize = 4;
-const DEFINITIONS: usize = 5;
-const EVENTS: usize = 6;
-const MAPS: usize = 7;
-const MAP_ENTRIES: usize = 8;
-const TEMPLATES: usize = 9;
-const UNKNOWN_ELEMENTS: usize = 10;
-
 /// The tables' kinds.
 #[derive(Clone, Copy)]
 enum Kind {
@@ -170,7 +167,7 @@ struct Table {
     trailing: [u32; 2],
 }
 
-/// An entry of list 5. What a kind lacks is 0.
+/// An entry of `DEFINITIONS`. What a kind lacks is 0.
 struct Definition<'a> {
     kind: Kind,
     identifier: u64,
@@ -183,7 +180,7 @@ struct Definition<'a> {
 
 struct Lists<'a> {
     blob: &'a [u8],
-    words: [Vec<u32>; 10],
+    words: [Vec<u32>; LISTS],
 }
 
 impl Lists<'_> {
@@ -217,14 +214,16 @@ impl Lists<'_> {
         [start, bytes / 2]
     }
 
-    fn put<const N: usize>(&mut self, list: usize, entry: [u32; N]) {
-        assert_eq!(N, WORDS[list - 1]);
-        self.words[list - 1].extend(entry);
+    fn put<const N: usize>(&mut self, list: u32, entry: [u32; N]) {
+        let row = row_of(list);
+        assert_eq!(N, ROWS[row].words);
+        self.words[row].extend(entry);
     }
 
     /// How many entries were put in a list so far.
-    fn written(&self, list: usize) -> u32 {
-        word(self.words[list - 1].len() / WORDS[list - 1])
+    fn written(&self, list: u32) -> u32 {
+        let row = row_of(list);
+        word(self.words[row].len() / ROWS[row].words)
     }
 
     /// All of one provider; its tables in the order of their kinds.
@@ -288,7 +287,7 @@ impl Lists<'_> {
     }
 
     /// A table's own entry, put before its entries, which `entries` will hold.
-    fn table(&mut self, provider: u32, kind: Kind, entries: usize, table: Table) {
+    fn table(&mut self, provider: u32, kind: Kind, entries: u32, table: Table) {
         let [trailing_start, trailing_length] = table.trailing;
         self.put(
             TABLES,

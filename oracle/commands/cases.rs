@@ -3,6 +3,7 @@
 
 use std::process::ExitCode;
 
+use answers::lists::{DESCRIPTORS, PROVIDERS, TABLES, TEMPLATES, row_of};
 use answers::{Answer, answer};
 use generator::known;
 
@@ -66,9 +67,9 @@ fn t_accepted() -> Answer {
         first: 116,
         ..Answer::default()
     };
-    t.lists[0] = vec![0, 0, 0, 0, 36, 80, 0, 1, 0];
-    t.lists[1] = vec![64, 0, u32::from_le_bytes(*b"TTBL")];
-    t.lists[3] = vec![0, 8, 64, 52, 0, 0, 1, 0, 0];
-    t.lists[8] = vec![76, 40, 0, 0, 0, 0, 0, 0, 0, 0, 116, 0];
+    t.lists[row_of(PROVIDERS)] = vec![0, 0, 0, 0, 36, 80, 0, 1, 0];
+    t.lists[row_of(DESCRIPTORS)] = vec![64, 0, u32::from_le_bytes(*b"TTBL")];
+    t.lists[row_of(TABLES)] = vec![0, 8, 64, 52, 0, 0, 1, 0, 0];
+    t.lists[row_of(TEMPLATES)] = vec![76, 40, 0, 0, 0, 0, 0, 0, 0, 0, 116, 0];
     t
 }

@@ -15,12 +15,13 @@ use std::process::ExitCode;
 use std::sync::atomic::{AtomicBool, AtomicU64, Ordering::Relaxed};
 use std::thread;
 
+use answers::lists::{EVENTS, MAP_ENTRIES, UNKNOWN2, row_of};
 use answers::{Answer, answer};
 use ducatfeather::raw;
 use generator::known::{self, Shared};
 use generator::{Rng, joins, large};
 use joining::{Joiner, Lists};
-use lending::{Lending, Numbers, Reader};
+use lending::{COUNTS, Lending, NUMBERS, Numbers, Reader};
 
 /// How many large blobs there are, whatever the count.
 const LARGE: u64 = 64;
@@ -316,21 +317,20 @@ impl Worker {
 fn past_32_bits() -> Result<(), String> {
     let mut reader = Reader::default();
     for (what, list) in [
-        (Shared::Unknown2, 3),
-        (Shared::Events, 6),
-        (Shared::MapEntries, 8),
+        (Shared::Unknown2, UNKNOWN2),
+        (Shared::Events, EVENTS),
+        (Shared::MapEntries, MAP_ENTRIES),
     ] {
         let blob = known::shared(65_536, 65_537, what);
-        let mut expected: Numbers = [0; 15];
-        [expected[0], expected[3], expected[4]] = [9, list, 65_536];
+        let mut expected: Numbers = [0; NUMBERS];
+        [expected[0], expected[3], expected[4]] = [9, list.into(), 65_536];
         let read = reader.read(&blob, &Lending::most(), &expected, &Default::default());
         read.map_err(|difference| {
             format!("65536 providers with 65537 {what:?} each: {difference}")
         })?;
-        let mut needed = [0; raw::NUMBERS];
+        let mut needed: Numbers = [0; NUMBERS];
         raw::ducat_needs(&blob, &mut needed);
-        let counts: [u64; 2] = [needed[0], needed[4 + list as usize]];
-        if counts != [0, 65_537] {
+        if [needed[0], needed[COUNTS + row_of(list)]] != [0, 65_537] {
             return Err(format!(
                 "65536 providers with 65537 {what:?} each: they need {needed:?}"
             ));

@@ -2,14 +2,29 @@
 
 use std::collections::{BTreeMap, BTreeSet};
 
+use answers::Answer;
 use answers::joins::{Accepted, Key, Words};
-use answers::{Answer, WORDS};
+use answers::lists::{
+    DEFINITIONS, EVENTS, GUIDS, LISTS, MAPS, PROVIDERS, ROWS, TABLES, TEMPLATES, areas, row_of,
+};
 use ducatfeather::raw;
 use generator::Rng;
 
 /// How many comparisons of entries the keys or offsets of one blob may take, about. All are asked
 /// for of blobs with at most 2,000 events, and templates.
 const MOST: usize = 16_000_000;
+
+/// The list that has a table's entries, for each kind of table; the kinds are counted from 1.
+const OF_KIND: [u32; 8] = [
+    DEFINITIONS,
+    EVENTS,
+    DEFINITIONS,
+    DEFINITIONS,
+    MAPS,
+    DEFINITIONS,
+    DEFINITIONS,
+    TEMPLATES,
+];
 
 #[derive(Default)]
 pub struct Totals {
@@ -46,15 +61,19 @@ impl Totals {
 /// What a reading was lent, and left.
 pub struct Lists<'a> {
     pub words: &'a [u32],
-    pub capacities: [u32; 10],
-    pub counts: [u32; 10],
+    pub capacities: [u32; LISTS],
+    pub counts: [u32; LISTS],
 }
 
 impl Lists<'_> {
-    /// Where the area behind so many lists starts.
-    fn area(&self, lists: usize) -> usize {
-        let before = self.capacities.iter().zip(WORDS).take(lists);
-        before.map(|(&room, words)| room as usize * words).sum()
+    /// Where a list's area starts.
+    fn area(&self, list: u32) -> usize {
+        areas(&self.capacities[..row_of(list)])
+    }
+
+    /// How many entries a list has.
+    fn count(&self, list: u32) -> u32 {
+        self.counts[row_of(list)]
     }
 }
 
@@ -105,7 +124,7 @@ impl Joiner {
         self.look_up(lists, key, 4 * guids.len() + more, given, guids)?;
         if !guids.is_empty() {
             let room = rng.below(guids.len());
-            let short = [9, 0, 11, room as u64, 0];
+            let short = [9, 0, GUIDS.into(), room as u64, 0];
             self.look_up(lists, key, 4 * room + rng.below(4), short, &[])?;
         }
         Ok(())
@@ -159,12 +178,13 @@ impl Joiner {
         accepted: &Accepted,
         rng: &mut Rng,
     ) -> Result<(), String> {
-        for table in entries(found, 4).filter(|table| table[1] == 8) {
+        for table in found.entries(TABLES).filter(|table| table[1] == 8) {
             let [provider, first, count] = [table[0], table[5], table[6]];
             let mut offsets = vec![0, rng.word()];
-            offsets.extend(part(found, 9, first, count).map(|template| template[0]));
-            for events in entries(found, 4).filter(|t| t[0] == provider && t[1] == 2) {
-                offsets.extend(part(found, 6, events[5], events[6]).map(|event| event[9]));
+            offsets.extend(part(found, TEMPLATES, first, count).map(|template| template[0]));
+            let tables = found.entries(TABLES);
+            for events in tables.filter(|t| t[0] == provider && t[1] == 2) {
+                offsets.extend(part(found, EVENTS, events[5], events[6]).map(|event| event[9]));
             }
             some(&mut offsets, count, rng);
             let beside = rng.pick(&offsets).wrapping_add(rng.pick(&[1, u32::MAX]));
@@ -183,7 +203,7 @@ impl Joiner {
         Ok(())
     }
 
-    /// Looks a template up in a range of list 9; the answer must come out so.
+    /// Looks a template up in a range of `TEMPLATES`; the answer must come out so.
     fn look_at(
         &mut self,
         lists: &Lists,
@@ -214,12 +234,12 @@ impl Joiner {
     fn refusals(&mut self, lists: &Lists, found: &Answer, rng: &mut Rng) -> Result<(), String> {
         // A count over its capacity; with a word too few as well, 8 comes first.
         let mut counts = lists.counts;
-        let list = rng.below(10);
+        let list = rng.below(LISTS);
         counts[list] = over(lists.capacities[list], rng);
         let mut apart = Lists { counts, ..*lists };
         self.refused(&apart, found, 10, rng)?;
         self.look_at(&apart, [0; 3], [10, 0, 0, 0, 0, 0])?;
-        let needed = lists.area(10);
+        let needed = areas(&lists.capacities);
         if needed > 0 {
             apart.words = &lists.words[..needed - 1];
             self.refused(&apart, found, 8, rng)?;
@@ -227,22 +247,24 @@ impl Joiner {
         }
 
         // A range past the templates.
-        let first = rng.below(lists.counts[8] as usize + 2) as u32;
-        let count = match lists.counts[8].checked_sub(first) {
+        let templates = lists.count(TEMPLATES);
+        let first = rng.below(templates as usize + 2) as u32;
+        let count = match templates.checked_sub(first) {
             Some(left) => over(left, rng),
             None => rng.word(),
         };
         self.look_at(lists, [first, count, rng.word()], [10, 0, 0, 0, 0, 0])?;
 
         // A table that names a provider, a kind or entries that are not there. The words are copied.
-        let tables = lists.counts[3] as usize;
+        let tables = lists.count(TABLES) as usize;
         if tables > 0 && lists.words.len() < 100_000 {
             let mut words = lists.words.to_vec();
-            let table = &mut words[lists.area(3) + 9 * rng.below(tables)..][..9];
-            let list = [5, 6, 5, 5, 7, 5, 5, 9][table[1] as usize - 1];
-            let entries = lists.counts[list - 1];
+            let length = ROWS[row_of(TABLES)].words;
+            let start = lists.area(TABLES) + length * rng.below(tables);
+            let table = &mut words[start..start + length];
+            let entries = lists.count(OF_KIND[table[1] as usize - 1]);
             match rng.below(4) {
-                0 => table[0] = over(lists.counts[0] - 1, rng),
+                0 => table[0] = over(lists.count(PROVIDERS) - 1, rng),
                 1 => table[1] = rng.pick(&[0, 9, u32::MAX]),
                 2 => table[5] = over(entries - table[6], rng),
                 _ => table[6] = over(entries - table[5], rng),
@@ -261,7 +283,8 @@ impl Joiner {
         code: u64,
         rng: &mut Rng,
     ) -> Result<(), String> {
-        let key = match (entries(found, 1).next(), entries(found, 6).next()) {
+        let first = |list| found.entries(list).next();
+        let key = match (first(PROVIDERS), first(EVENTS)) {
             (Some(provider), Some(event)) => key_of(provider, event),
             _ => std::array::from_fn(|_| rng.word()),
         };
@@ -277,15 +300,15 @@ fn over(number: u32, rng: &mut Rng) -> u32 {
 
 /// The keys to ask for: those of the original's index, those of all events, and of each one nearby.
 fn keys(found: &Answer, index: &BTreeMap<Key, Vec<Words>>, rng: &mut Rng) -> Vec<Key> {
-    let providers: Vec<&[u32]> = entries(found, 1).collect();
+    let providers: Vec<&[u32]> = found.entries(PROVIDERS).collect();
     let mut all: BTreeSet<Key> = index.keys().copied().collect();
-    for table in entries(found, 4).filter(|table| table[1] == 2) {
+    for table in found.entries(TABLES).filter(|table| table[1] == 2) {
         let provider = providers[table[0] as usize];
-        let events = part(found, 6, table[5], table[6]);
+        let events = part(found, EVENTS, table[5], table[6]);
         all.extend(events.map(|event| key_of(provider, event)));
     }
     let mut keys: Vec<Key> = all.into_iter().collect();
-    some(&mut keys, found.counts()[5] as u32, rng);
+    some(&mut keys, found.counts()[row_of(EVENTS)] as u32, rng);
     for i in 0..keys.len() {
         let mut near = keys[i];
         match rng.below(4) {
@@ -311,13 +334,8 @@ fn some<T>(items: &mut Vec<T>, entries: u32, rng: &mut Rng) {
     }
 }
 
-/// A list's entries, counted from list 1.
-fn entries(found: &Answer, list: usize) -> impl Iterator<Item = &[u32]> {
-    found.lists[list - 1].chunks_exact(WORDS[list - 1])
-}
-
-fn part(found: &Answer, list: usize, first: u32, count: u32) -> impl Iterator<Item = &[u32]> {
-    entries(found, list)
-        .skip(first as usize)
-        .take(count as usize)
+/// So many of a list's entries, from one on.
+fn part(found: &Answer, list: u32, first: u32, count: u32) -> impl Iterator<Item = &[u32]> {
+    let entries = found.entries(list);
+    entries.skip(first as usize).take(count as usize)
 }

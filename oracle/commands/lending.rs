@@ -1,46 +1,52 @@
 //! Memory lent to the library, and what must become of it.
 
-use answers::{Answer, WORDS};
+use answers::Answer;
+use answers::lists::{LISTS, ROWS, areas};
 use ducatfeather::raw;
 use generator::Rng;
 
-/// Code, field, place, first, second, the ten counts.
-pub type Numbers = [u64; raw::NUMBERS];
+/// Code, field, place, first, second, and a count for each list.
+pub type Numbers = [u64; NUMBERS];
+
+/// Where the counts start among them, and how many there are in all. The library has a name for
+/// that too; this one is the oracle's own, so that the library is held to it.
+pub const COUNTS: usize = 5;
+pub const NUMBERS: usize = COUNTS + LISTS;
 
 /// The most entries that a list may have room for.
 const MOST: u32 = 65_536;
 
 pub struct Lending {
-    pub capacities: [u32; 10],
+    pub capacities: [u32; LISTS],
     /// How many words are lent.
     words: usize,
 }
 
 impl Lending {
     /// So many words more than the areas need.
-    fn new(capacities: [u32; 10], more: usize) -> Lending {
+    fn new(capacities: [u32; LISTS], more: usize) -> Lending {
         let words = areas(&capacities) + more;
         Lending { capacities, words }
     }
 
     /// What is needed, as far as there can be room, and not a word more.
-    pub fn exact(counts: &[usize; 10]) -> Lending {
+    pub fn exact(counts: &[usize; LISTS]) -> Lending {
         Lending::new(counts.map(capacity), 0)
     }
 
     /// Some entries more in each list, and some words more behind all.
-    pub fn roomy(counts: &[usize; 10], rng: &mut Rng) -> Lending {
+    pub fn roomy(counts: &[usize; LISTS], rng: &mut Rng) -> Lending {
         let capacities = counts.map(|count| capacity(count + rng.below(4)));
         Lending::new(capacities, rng.below(5))
     }
 
     pub fn most() -> Lending {
-        Lending::new([MOST; 10], 0)
+        Lending::new([MOST; LISTS], 0)
     }
 
     /// One list has room for one entry less than it needs.
-    pub fn one_short(counts: &[usize; 10], rng: &mut Rng) -> Lending {
-        let needing: Vec<usize> = (0..10).filter(|&list| counts[list] > 0).collect();
+    pub fn one_short(counts: &[usize; LISTS], rng: &mut Rng) -> Lending {
+        let needing: Vec<usize> = (0..LISTS).filter(|&list| counts[list] > 0).collect();
         let mut lending = Lending::roomy(counts, rng);
         let list = rng.pick(&needing);
         lending.capacities[list] = capacity(counts[list] - 1);
@@ -49,7 +55,7 @@ impl Lending {
     }
 
     /// Any list may have less room than it needs.
-    pub fn several_short(counts: &[usize; 10], rng: &mut Rng) -> Lending {
+    pub fn several_short(counts: &[usize; LISTS], rng: &mut Rng) -> Lending {
         let capacities = counts.map(|count| match count {
             1.. if rng.chance(40) => capacity(rng.below(count)),
             _ => capacity(count),
@@ -58,30 +64,30 @@ impl Lending {
     }
 
     /// A capacity over the limit, or too few words, one or more.
-    pub fn refused(counts: &[usize; 10], rng: &mut Rng) -> Lending {
+    pub fn refused(counts: &[usize; LISTS], rng: &mut Rng) -> Lending {
         let mut lending = Lending::roomy(counts, rng);
         let needed = areas(&lending.capacities);
         if needed > 0 && rng.chance(50) {
             lending.words = needed - rng.pick(&[1, 1, needed]);
         } else {
-            lending.capacities[rng.below(10)] = rng.pick(&[MOST + 1, 1 << 31, u32::MAX]);
+            lending.capacities[rng.below(LISTS)] = rng.pick(&[MOST + 1, 1 << 31, u32::MAX]);
         }
         lending
     }
 
     /// What the library must answer to bytes that the original answers so.
     pub fn expected(&self, found: &Answer) -> Numbers {
-        let mut numbers = [0; raw::NUMBERS];
+        let mut numbers = [0; NUMBERS];
         let counts = found.counts();
         let too_many = self.capacities.iter().any(|&capacity| capacity > MOST);
-        let short = (0..10).find(|&list| counts[list] > self.capacities[list] as usize);
+        let short = (0..LISTS).find(|&list| counts[list] > self.capacities[list] as usize);
         if found.code == 7 {
             numbers[0] = 7;
         } else if too_many || self.words < areas(&self.capacities) {
             numbers[0] = 8;
         } else if let Some(list) = short {
             let capacity = self.capacities[list].into();
-            [numbers[0], numbers[3], numbers[4]] = [9, list as u64 + 1, capacity];
+            [numbers[0], numbers[3], numbers[4]] = [9, ROWS[list].number.into(), capacity];
         } else {
             numbers = told(found);
         }
@@ -92,9 +98,9 @@ impl Lending {
 /// The original's answer as the library tells it.
 fn told(found: &Answer) -> Numbers {
     let [code, field, place] = [found.code, found.field, found.place].map(u64::from);
-    let mut numbers = [0; raw::NUMBERS];
-    numbers[..5].copy_from_slice(&[code, field, place, found.first, found.second]);
-    for (number, count) in numbers[5..].iter_mut().zip(found.counts()) {
+    let mut numbers = [0; NUMBERS];
+    numbers[..COUNTS].copy_from_slice(&[code, field, place, found.first, found.second]);
+    for (number, count) in numbers[COUNTS..].iter_mut().zip(found.counts()) {
         *number = count as u64;
     }
     numbers
@@ -104,10 +110,10 @@ fn told(found: &Answer) -> Numbers {
 /// must come: the original's, with numbers of entries that stop rising past what can be lent.
 pub fn needs(blob: &[u8], found: &Answer) -> Result<(), String> {
     let mut expected = told(found);
-    for number in &mut expected[5..] {
+    for number in &mut expected[COUNTS..] {
         *number = (*number).min(u64::from(MOST) + 1);
     }
-    let mut numbers = [u64::MAX; raw::NUMBERS];
+    let mut numbers = [u64::MAX; NUMBERS];
     let code = raw::ducat_needs(blob, &mut numbers);
     if numbers != expected || u64::from(code) != expected[0] {
         return Err(format!(
@@ -120,13 +126,6 @@ pub fn needs(blob: &[u8], found: &Answer) -> Result<(), String> {
 /// Room for so many entries, but not more than there can be.
 fn capacity(count: usize) -> u32 {
     u32::try_from(count).unwrap_or(MOST).min(MOST)
-}
-
-/// The words that the ten areas need.
-fn areas(capacities: &[u32; 10]) -> usize {
-    let each = capacities.iter().zip(WORDS);
-    each.map(|(&capacity, words)| capacity as usize * words)
-        .sum()
 }
 
 /// Reads with the library. Keeps its memory from one reading to the next.
@@ -155,7 +154,7 @@ impl Reader {
         blob: &[u8],
         lending: &Lending,
         expected: &Numbers,
-        lists: &[Vec<u32>; 10],
+        lists: &[Vec<u32>; LISTS],
     ) -> Result<(), String> {
         self.salt = self.salt.wrapping_add(0x9e37_79b9);
         let pattern = (0..lending.words as u32).map(|i| i.wrapping_mul(0x85eb_ca6b) ^ self.salt);
@@ -164,13 +163,13 @@ impl Reader {
         self.expected.clone_from(&self.words);
         if expected[0] == 0 {
             let mut start = 0;
-            for ((list, capacity), words) in lists.iter().zip(lending.capacities).zip(WORDS) {
+            for ((list, capacity), row) in lists.iter().zip(lending.capacities).zip(ROWS) {
                 self.expected[start..start + list.len()].copy_from_slice(list);
-                start += capacity as usize * words;
+                start += capacity as usize * row.words;
             }
         }
         // What was in the answer before doesn't matter, and must not stay.
-        let mut numbers = [u64::from(self.salt); raw::NUMBERS];
+        let mut numbers = [u64::from(self.salt); NUMBERS];
         let code = raw::ducat_read(blob, &mut self.words, &lending.capacities, &mut numbers);
         let lent = format_args!(
             "capacities {:?}, {} words",

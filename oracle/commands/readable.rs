@@ -4,23 +4,25 @@
 //!
 //! The blobs are the cases of docs/FORMAT.md, for each pair of code and field the shortest generated
 //! one that has it, an accepted one with entries in every list, and some whose lent memory doesn't do.
-//! A record has `RECORD` bytes: twelve 32-bit little-endian numbers (the lengths of the name and of
-//! the blob, the ten capacities), the name and the blob, each with zeros behind it up to its room.
+//! A record has `RECORD` bytes: 32-bit little-endian numbers (the lengths of the name and of the
+//! blob, a capacity for each list), the name and the blob, each with zeros behind it up to its room.
 
 use std::collections::BTreeMap;
 use std::path::PathBuf;
 use std::process::ExitCode;
 
+use answers::lists::{LISTS, PROVIDERS, ROWS, TEMPLATES, UNKNOWN_ELEMENTS, UNKNOWN2, row_of};
 use answers::{Answer, answer, fields, fields::Pair};
 use generator::{Rng, known};
 
 /// How many generated blobs are looked at.
 const LOOKED_AT: u64 = 200_000;
 
-/// Room for a name and for a blob.
+/// The bytes of the two lengths and the capacities, and the room for a name and for a blob.
+const NUMBERS: usize = 4 * (2 + LISTS);
 const NAME: usize = 80;
 const BLOB: usize = 512;
-const RECORD: usize = 48 + NAME + BLOB;
+const RECORD: usize = NUMBERS + NAME + BLOB;
 
 /// The capacity of each list where nothing else is said.
 const CAPACITY: u32 = 64;
@@ -28,7 +30,7 @@ const CAPACITY: u32 = 64;
 struct Case {
     name: String,
     blob: Vec<u8>,
-    capacities: [u32; 10],
+    capacities: [u32; LISTS],
     expected: Answer,
 }
 
@@ -99,7 +101,7 @@ fn original(name: String, blob: Vec<u8>) -> Case {
         expected: answer(&blob),
         name,
         blob,
-        capacities: [CAPACITY; 10],
+        capacities: [CAPACITY; LISTS],
     }
 }
 
@@ -137,9 +139,9 @@ fn generated(seed: u64) -> (BTreeMap<Pair, Vec<u8>>, Option<Vec<u8>>) {
 
 /// Codes 8 and 9, which are the port's own: what docs/FORMAT.md says of them, and of their order.
 fn own() -> Vec<Case> {
-    let room = |list: usize, capacity| {
-        let mut capacities = [CAPACITY; 10];
-        capacities[list - 1] = capacity;
+    let room = |list: u32, capacity| {
+        let mut capacities = [CAPACITY; LISTS];
+        capacities[row_of(list)] = capacity;
         capacities
     };
     let refusal = |code, first, second| Answer {
@@ -160,32 +162,37 @@ fn own() -> Vec<Case> {
         case(
             "T with no room for a template",
             &t,
-            room(9, 0),
-            refusal(9, 9, 0),
+            room(TEMPLATES, 0),
+            refusal(9, TEMPLATES.into(), 0),
         ),
-        case("T with no room at all", &t, [0; 10], refusal(9, 1, 0)),
+        case(
+            "T with no room at all",
+            &t,
+            [0; LISTS],
+            refusal(9, PROVIDERS.into(), 0),
+        ),
         case(
             "T with a capacity of 65,537",
             &t,
-            room(3, 65_537),
+            room(UNKNOWN2, 65_537),
             refusal(8, 0, 0),
         ),
         case(
             "T with areas that need too many words",
             &t,
-            [65; 10],
+            [65; LISTS],
             refusal(8, 0, 0),
         ),
         case(
             "empty with a capacity of 65,537",
             &[],
-            room(10, 65_537),
+            room(UNKNOWN_ELEMENTS, 65_537),
             refusal(8, 0, 0),
         ),
         case(
             "TEMP.size 39 with no room at all",
             &short,
-            [0; 10],
+            [0; LISTS],
             answer(&short),
         ),
     ]
@@ -197,7 +204,7 @@ fn record(case: &Case) -> Vec<u8> {
     let numbers = lengths.iter().chain(&case.capacities);
     let mut record: Vec<u8> = numbers.flat_map(|number| number.to_le_bytes()).collect();
     record.extend(case.name.as_bytes());
-    record.resize(48 + NAME, 0);
+    record.resize(NUMBERS + NAME, 0);
     record.extend(&case.blob);
     record.resize(RECORD, 0);
     record
@@ -220,8 +227,9 @@ fn lines(case: &Case) -> String {
         lines += &format!(" {count}");
     }
     lines += "\n";
-    for (number, list) in (1..).zip(lists).filter(|(_, list)| !list.is_empty()) {
-        lines += &format!("  list {number}:");
+    let rows = ROWS.iter().zip(lists);
+    for (row, list) in rows.filter(|(_, list)| !list.is_empty()) {
+        lines += &format!("  list {}:", row.number);
         for word in list {
             lines += &format!(" {word}");
         }

@@ -3,7 +3,7 @@
 //!
 //! The output is 32-bit little-endian numbers and nothing else. For each blob: its length, its
 //! bytes (zeros behind them up to a multiple of four), code, field, place, first (low, high),
-//! second (low, high), the ten counts, and all words of lists 1 to 10. It ends after the last.
+//! second (low, high), a count for each list, and all words of each list. It ends after the last.
 
 mod traits;
 
@@ -11,6 +11,7 @@ use std::collections::{BTreeMap, BTreeSet};
 use std::io::{self, BufWriter, Write};
 use std::process::ExitCode;
 
+use answers::lists::LISTS;
 use answers::{Answer, answer, fields};
 use generator::{Rng, known};
 use traits::{Trait, traits};
@@ -113,7 +114,7 @@ fn numbers(answer: &Answer) -> Vec<u32> {
 fn report(sample: &[(Vec<u8>, Answer)], bytes: usize) -> ExitCode {
     let accepted = sample.iter().filter(|(_, answer)| answer.code == 0).count();
     let longest = sample.iter().map(|(blob, _)| blob.len()).max();
-    let most: [usize; 10] = std::array::from_fn(|list| {
+    let most: [usize; LISTS] = std::array::from_fn(|list| {
         let counts = sample.iter().map(|(_, answer)| answer.counts()[list]);
         counts.max().unwrap_or(0)
     });

@@ -1,14 +1,13 @@
 //! What is special about a blob and its answer, so that a sample can have some of each.
 
-use answers::{Answer, WORDS};
+use answers::Answer;
+use answers::lists::{
+    DEFINITIONS, DESCRIPTORS, EVENTS, MAP_ENTRIES, MAPS, PROVIDERS, ROWS, TABLES, TEMPLATES,
+    UNKNOWN_ELEMENTS,
+};
 
 /// A name of the trait and some numbers that tell it from others of that name.
 pub type Trait = (&'static str, [u32; 4]);
-
-/// A list's entries, counted from list 1.
-fn entries(answer: &Answer, list: usize) -> impl Iterator<Item = &[u32]> {
-    answer.lists[list - 1].chunks_exact(WORDS[list - 1])
-}
 
 pub fn traits(blob: &[u8], answer: &Answer) -> Vec<Trait> {
     let mut traits = if answer.code == 0 {
@@ -49,10 +48,10 @@ fn accepted(blob: &[u8], answer: &Answer) -> Vec<Trait> {
         "stray bytes",
         [u32::from(blob.len() as u64 > answer.first), 0, 0, 0],
     )];
-    for (list, count) in (1..).zip(answer.counts()) {
-        traits.push(("entries", [list, few(count as u64), 0, 0]));
+    for (row, count) in ROWS.iter().zip(answer.counts()) {
+        traits.push(("entries", [row.number, few(count as u64), 0, 0]));
     }
-    for provider in entries(answer, 1) {
+    for provider in answer.entries(PROVIDERS) {
         let absent = u32::from(provider[6] == u32::MAX);
         traits.push((
             "provider",
@@ -60,7 +59,7 @@ fn accepted(blob: &[u8], answer: &Answer) -> Vec<Trait> {
         ));
     }
     traits.extend(descriptors(answer));
-    for table in entries(answer, 4) {
+    for table in answer.entries(TABLES) {
         let sized = u32::from(table[3] != 0);
         traits.push(("table", [table[1], sized, few(table[6].into()), 0]));
         // Not the first provider's, and entries before its own.
@@ -73,7 +72,7 @@ fn accepted(blob: &[u8], answer: &Answer) -> Vec<Trait> {
             [few(table[8].into()), few(table[4].into()), 0, 0],
         ));
     }
-    for definition in entries(answer, 5) {
+    for definition in answer.entries(DEFINITIONS) {
         let absent = u32::from(definition[3] == u32::MAX);
         let name = named(blob, definition[4], definition[5], definition[6]);
         traits.push(("definition", [definition[0], absent, name, 0]));
@@ -87,23 +86,23 @@ fn accepted(blob: &[u8], answer: &Answer) -> Vec<Trait> {
             ],
         ));
     }
-    for event in entries(answer, 6) {
+    for event in answer.entries(EVENTS) {
         for (place, &word) in (0..).zip(event) {
             traits.push(("event", [place, few(word.into()), 0, 0]));
         }
     }
-    for map in entries(answer, 7) {
+    for map in answer.entries(MAPS) {
         let name = named(blob, map[4], map[5], map[6]);
         traits.push(("map", [map[0], few(map[8].into()), few(map[10].into()), 0]));
         traits.push(("map's place", [map[0], name, few(map[7].into()), 0]));
     }
-    for entry in entries(answer, 8) {
+    for entry in answer.entries(MAP_ENTRIES) {
         traits.push((
             "map entry",
             [few(entry[0].into()), few(entry[1].into()), 0, 0],
         ));
     }
-    for template in entries(answer, 9) {
+    for template in answer.entries(TEMPLATES) {
         let items = match template[4].checked_sub(template[0]) {
             None => 0,
             Some(0..40) => 1,
@@ -120,7 +119,7 @@ fn accepted(blob: &[u8], answer: &Answer) -> Vec<Trait> {
             ],
         ));
     }
-    for unknown in entries(answer, 10) {
+    for unknown in answer.entries(UNKNOWN_ELEMENTS) {
         traits.push((
             "unknown",
             [few(unknown[0].into()), few(unknown[3].into()), 0, 0],
@@ -132,8 +131,8 @@ fn accepted(blob: &[u8], answer: &Answer) -> Vec<Trait> {
 /// Signatures that a provider names twice: of a kind, where the last is kept, or of none.
 fn descriptors(answer: &Answer) -> Vec<Trait> {
     let mut traits = Vec::new();
-    let mut all = entries(answer, 2);
-    for provider in entries(answer, 1) {
+    let mut all = answer.entries(DESCRIPTORS);
+    for provider in answer.entries(PROVIDERS) {
         let own: Vec<&[u32]> = all.by_ref().take(provider[7] as usize).collect();
         for (i, one) in own.iter().enumerate() {
             for other in &own[..i] {
