@@ -35,13 +35,14 @@ fine s = many-fine (number 4) (step 4) s (λ at. (_, finds-number 4 at s))
 loop-again : tie.Need-loop-again Inv-loop μ-loop
 loop-again c =
     let p = c .before .before in
-    let w = p .before .before in
+    let w = p .before .before .before in
     let m = w .before in
-    let inv = m .before .loop .inv in (
+    let l = m .before .loop in
+    let inv = l .inv in (
       omega arith,
       omega arith,
       p .put .kept .0 ∙ inv .2,
-      inv .3 ∙ rest-more (number 4) (step 4) unknown2Words _ _ _ _ _ _ _ (p .put .ensures ∙ ap (λ x. laid _ _ (x ∷ [])) (w .word .ensures)) (m .loop-test .taken) (finds-number 4 _ _) (fine _ _ _),
+      inv .3 ∙ rest-more (number 4) (step 4) unknown2Words _ _ _ _ _ _ _ (p .put .ensures ∙ ap (λ x. laid (l .area) (l .to) (x ∷ [])) (w .word .ensures)) (m .loop-test .taken) (finds-number 4 _ _) (fine _ _ _),
     )
 
 returns : tie.Need-returns Inv-loop μ-loop

@@ -68,6 +68,7 @@ give-spec =
     (λ c. search needs)
     count-requires
     (λ c. search needs)
+    (λ c. search needs)
     returns
     (λ c. search needs)
     fill-requires
