@@ -12,7 +12,7 @@ use lib.Dec.{eqb}
 use lib.ListN.{length, getD, length-append}
 use Rattle.blob.specs.Places.{Each}
 use Rattle.blob.specs.Laid.{flat, flat-single, flat-flat}
-use Rattle.format.specs.Area.{TABLES, MAPS, rows, none}
+use Rattle.format.specs.Area.{TABLES, MAPS, UNKNOWN, Row, rows, none, width}
 use Rattle.format.specs.Map.{Mapped}
 use Rattle.format.specs.Provider.{Rows, Table, Provider}
 use Rattle.format.specs.Lists.{Entry, providerWords, descriptorWords, unknown2Words, definitionWords, eventWords, mapEntryWords, templateWords, unknownWords, kept, unknowns, Owned, ownedTables, ownedUnknowns, after, tableEntries, definitionsIn, eventsIn, mapsIn, templatesIn, mapList, lists}
@@ -41,20 +41,20 @@ wide-map : {B : Type 0} (k : ℕ) (words : B → Entry) → ((b : B) → length 
 wide-map k words h [] = empty
 wide-map k words h (x ∷ xs) = more (h x) (wide-map k words h xs)
 
-wide-tables : (w : List ℕ) (os : List Owned) → Wide 9 (tableEntries w os)
+wide-tables : (w : List ℕ) (os : List Owned) → Wide (width TABLES) (tableEntries w os)
 unfolding tableEntries
 wide-tables w [] = empty
 wide-tables w (o ∷ os) = more refl (wide-tables (after w (o .table .rows)) os)
 
-wide-maps : (n : ℕ) (ms : List Mapped) → Wide 11 (mapList n ms)
+wide-maps : (n : ℕ) (ms : List Mapped) → Wide (width MAPS) (mapList n ms)
 unfolding mapList
 wide-maps n [] = empty
 wide-maps n (m ∷ ms) = more refl (wide-maps (n + length (m .entries)) ms)
 
-wide-unknowns : (n : ℕ) (ps : List Provider) → Wide 4 (ownedUnknowns n ps)
+wide-unknowns : (n : ℕ) (ps : List Provider) → Wide (width UNKNOWN) (ownedUnknowns n ps)
 unfolding ownedUnknowns
 wide-unknowns n [] = empty
-wide-unknowns n (p ∷ ps) = wide-append (wide-map 4 (unknownWords n) (λ u. refl) (unknowns (p .elements))) (wide-unknowns (suc n) ps)
+wide-unknowns n (p ∷ ps) = wide-append (wide-map _ (unknownWords n) (λ u. refl) (unknowns (p .elements))) (wide-unknowns (suc n) ps)
 
 -- the words of an entry, by its list's row
 abbrev pub words : ℕ → ℕ
@@ -63,23 +63,23 @@ words i = getD (map (λ r. r .words) rows) i 0
 pub lists-wide : (ps : List Provider) (i : ℕ) → i < length rows → Wide (words i) (getD (lists ps) i [])
 lists-wide ps =
     rw (lists-itemized ps) (first (λ i. Wide (words i) (getD (itemized ps) i [])) (length rows) (
-      wide-map 9 providerWords (λ p. refl) (flat (λ p. p ∷ []) ps),
+      wide-map _ providerWords (λ p. refl) (flat (λ p. p ∷ []) ps),
       (
-        wide-map 3 descriptorWords (λ d. refl) (flat (λ p. p .descriptors) ps),
+        wide-map _ descriptorWords (λ d. refl) (flat (λ p. p .descriptors) ps),
         (
-          wide-map 1 unknown2Words (λ w. refl) (flat (λ p. p .unknown2) ps),
+          wide-map _ unknown2Words (λ w. refl) (flat (λ p. p .unknown2) ps),
           (
             wide-tables none (ownedTables 0 ps),
             (
-              wide-map 12 definitionWords (λ d. refl) (flat (of-tables definitionsIn) ps),
+              wide-map _ definitionWords (λ d. refl) (flat (of-tables definitionsIn) ps),
               (
-                wide-map 16 eventWords (λ e. refl) (flat (of-tables eventsIn) ps),
+                wide-map _ eventWords (λ e. refl) (flat (of-tables eventsIn) ps),
                 (
                   wide-maps 0 (flat (of-tables mapsIn) ps),
                   (
-                    wide-map 2 mapEntryWords (λ e. refl) (flat (of-tables entriesIn) ps),
+                    wide-map _ mapEntryWords (λ e. refl) (flat (of-tables entriesIn) ps),
                     (
-                      wide-map 12 templateWords (λ t. refl) (flat (of-tables templatesIn) ps),
+                      wide-map _ templateWords (λ t. refl) (flat (of-tables templatesIn) ps),
                       (wide-unknowns 0 ps, tt),
                     ),
                   ),
@@ -137,6 +137,11 @@ each-few : (ns : List ℕ) → Each (λ n. n ≤ 65536) ns → Few ns
 each-few [] e i = omega arith
 each-few (n ∷ ns) e zero = e .0
 each-few (n ∷ ns) e (suc i) = each-few ns (e .1) i
+
+none-few-all : (rs : List Row) → Few (map (λ r. 0) rs)
+none-few-all [] i = omega arith
+none-few-all (r ∷ rs) zero = omega arith
+none-few-all (r ∷ rs) (suc i) = none-few-all rs i
 
 module _ (ps : List Provider) (f : Few (counted (lists ps))) where
   -- what a list has of the providers, by its row
@@ -206,7 +211,7 @@ module _ (ps : List Provider) (f : Few (counted (lists ps))) where
           ))
       go false false e g =
           rw (behindAll-same l e g none (tables ps))
-          (each-few none (none-few, (none-few, (none-few, (none-few, (none-few, (none-few, (none-few, (none-few, (none-few, (none-few, tt)))))))))))
+          (none-few-all rows)
 
   -- what is written in each list behind all providers
   pub list-few : (i : ℕ) → i < length rows → Counted (passedAll (number i) none ps)
