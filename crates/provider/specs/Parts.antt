@@ -14,6 +14,7 @@ use Rattle.blob.specs.declared.Verdict.the-variants as verdicts
 use Rattle.blob.specs.Reading.{Fault, Reading, got, room, Outcome, done, refused, choose, run, number, many, each, verdict, values}
 use Rattle.blob.specs.Laws.{run-after, run-stopped, run-number, run-room, run-got, finds-number, many-fine, many-count, fine-done, not-fine}
 use Rattle.words.specs.Guid.{guid-found}
+use Rattle.format.specs.Area.{PROVIDERS, DESCRIPTORS, UNKNOWN2, place}
 use Rattle.format.specs.Field.{WEVT-descriptor-array, WEVT-unknown2-array}
 use Rattle.format.specs.Refuse.{whole}
 use Rattle.format.specs.Definition.{guidAt, step}
@@ -30,7 +31,7 @@ use Rattle.element.specs.Counted.{needsOf, neededFor, has-refused}
 
 -- what each list needs for a provider with such a header, whose elements need so much
 abbrev pub own : List ℕ → Wevt → List ℕ
-own elements w = set (set (set elements 0 1) 1 (w .descriptors)) 2 (w .unknown2)
+own elements w = set (set (set elements (place PROVIDERS) 1) (place DESCRIPTORS) (w .descriptors)) (place UNKNOWN2) (w .unknown2)
 
 -- what the answers tell of their readings
 is-wevt : (o : Outcome Wevt) (w : Wevt) → wevt.Wevt w ≡ wevtRead o → o ≡ done w

@@ -9,7 +9,7 @@ use native.Mathlib.Nat.{zero-add, mul-zero, mul-suc, add-assoc, add-zero}
 use native.Mathlib.Omega.{arith}
 use borrow.Author.Tests.{eqb-true}
 use lib.Dec.{eqb}
-use lib.ListN.{length, getD, length-append}
+use lib.ListN.{length, getD, drop, length-append}
 use Rattle.blob.specs.Places.{Each}
 use Rattle.blob.specs.Laid.{flat, flat-single, flat-flat}
 use Rattle.format.specs.Area.{TABLES, MAPS, UNKNOWN, Row, rows, none, width}
@@ -119,24 +119,31 @@ tables-behind before [] = refl
 tables-behind before (t ∷ ts) = tables-behind (after before (t .rows)) ts
 
 -- list 7 those of maps
-maps-behind : (a b c d e f g h i j : ℕ) (ts : List Table) → behindAll MAPS (a ∷ b ∷ c ∷ d ∷ e ∷ f ∷ g ∷ h ∷ i ∷ j ∷ []) ts
-    ≡ a ∷ b ∷ c ∷ d ∷ e ∷ f ∷ g ∷ (h + length (flat (λ t. entriesIn (t .rows)) ts)) ∷ i ∷ j ∷ []
+maps-behind : (a b c d e f g h : ℕ) (others : List ℕ) (ts : List Table) → behindAll MAPS (a ∷ b ∷ c ∷ d ∷ e ∷ f ∷ g ∷ h ∷ others) ts
+    ≡ a ∷ b ∷ c ∷ d ∷ e ∷ f ∷ g ∷ (h + length (flat (λ t. entriesIn (t .rows)) ts)) ∷ others
 unfolding behindAll flat
-maps-behind a b c d e f g h i j [] = simp add-zero
-maps-behind a b c d e f g h i j (t ∷ ts) =
-    maps-behind a b c d e f g _ i j ts ∙ rw (entries-count (mapsIn (t .rows)), length-append, add-assoc)
+maps-behind a b c d e f g h others [] = simp add-zero
+maps-behind a b c d e f g h others (t ∷ ts) =
+    maps-behind a b c d e f g _ others ts ∙ rw (entries-count (mapsIn (t .rows)), length-append, add-assoc)
 
-pub tables-end : (ps : List Provider) → behindAll TABLES none (tables ps)
-    ≡ 0 ∷ 0 ∷ 0 ∷ 0 ∷ length (flat (of-tables definitionsIn) ps) ∷ length (flat (of-tables eventsIn) ps) ∷ length (flat (of-tables mapsIn) ps) ∷ 0 ∷ length (flat (of-tables templatesIn) ps) ∷ 0 ∷ []
-tables-end ps = tables-behind none (tables ps) ∙ after-all 0 0 0 0 0 0 (tables ps) 0 0 0 0 ∙ simp (zero-add, of-all definitionsIn, of-all eventsIn, of-all mapsIn, of-all templatesIn)
+abbrev pub ends : List Provider → List ℕ
+ends ps =
+    0 ∷ 0 ∷ 0 ∷ 0 ∷ length (flat (of-tables definitionsIn) ps) ∷ length (flat (of-tables eventsIn) ps) ∷ length (flat (of-tables mapsIn) ps) ∷ 0 ∷ length (flat (of-tables templatesIn) ps) ∷ drop 9 none
 
-maps-end : (ps : List Provider) → behindAll MAPS none (tables ps) ≡ 0 ∷ 0 ∷ 0 ∷ 0 ∷ 0 ∷ 0 ∷ 0 ∷ length (flat (of-tables entriesIn) ps) ∷ 0 ∷ 0 ∷ []
-maps-end ps = maps-behind 0 0 0 0 0 0 0 0 0 0 (tables ps) ∙ simp (zero-add, of-all entriesIn)
+pub tables-end : (ps : List Provider) → behindAll TABLES none (tables ps) ≡ ends ps
+tables-end ps = tables-behind none (tables ps) ∙ after-all 0 0 0 0 0 (drop 9 none) (tables ps) 0 0 0 0 ∙ simp (zero-add, of-all definitionsIn, of-all eventsIn, of-all mapsIn, of-all templatesIn)
+
+maps-end : (ps : List Provider) → behindAll MAPS none (tables ps) ≡ 0 ∷ 0 ∷ 0 ∷ 0 ∷ 0 ∷ 0 ∷ 0 ∷ length (flat (of-tables entriesIn) ps) ∷ drop 8 none
+maps-end ps = maps-behind 0 0 0 0 0 0 0 0 (drop 8 none) (tables ps) ∙ simp (zero-add, of-all entriesIn)
 
 each-few : (ns : List ℕ) → Each (λ n. n ≤ 65536) ns → Few ns
 each-few [] e i = omega arith
 each-few (n ∷ ns) e zero = e .0
 each-few (n ∷ ns) e (suc i) = each-few ns (e .1) i
+
+none-each : (rs : List Row) → Each (λ n. n ≤ 65536) (map (λ r. 0) rs)
+none-each [] = tt
+none-each (r ∷ rs) = (omega arith, none-each rs)
 
 none-few-all : (rs : List Row) → Few (map (λ r. 0) rs)
 none-few-all [] i = omega arith
@@ -157,7 +164,7 @@ module _ (ps : List Provider) (f : Few (counted (lists ps))) where
       go : (t m : Bool) → eqb l TABLES ≡ t → eqb l MAPS ≡ m → Few (behindAll l none (tables ps))
       go true m e g =
           rw (eqb-true l TABLES e, tables-end ps)
-          (each-few (0 ∷ 0 ∷ 0 ∷ 0 ∷ length (flat (of-tables definitionsIn) ps) ∷ length (flat (of-tables eventsIn) ps) ∷ length (flat (of-tables mapsIn) ps) ∷ 0 ∷ length (flat (of-tables templatesIn) ps) ∷ 0 ∷ []) (
+          (each-few (0 ∷ 0 ∷ 0 ∷ 0 ∷ length (flat (of-tables definitionsIn) ps) ∷ length (flat (of-tables eventsIn) ps) ∷ length (flat (of-tables mapsIn) ps) ∷ 0 ∷ length (flat (of-tables templatesIn) ps) ∷ drop 9 none) (
             none-few,
             (
               none-few,
@@ -173,7 +180,7 @@ module _ (ps : List Provider) (f : Few (counted (lists ps))) where
                         few-of 6 (of-tables mapsIn) refl,
                         (
                           none-few,
-                          (few-of 8 (of-tables templatesIn) refl, (none-few, tt)),
+                          (few-of 8 (of-tables templatesIn) refl, none-each (drop 9 rows)),
                         ),
                       ),
                     ),
@@ -184,7 +191,7 @@ module _ (ps : List Provider) (f : Few (counted (lists ps))) where
           ))
       go false true e g =
           rw (eqb-true l MAPS g, maps-end ps)
-          (each-few (0 ∷ 0 ∷ 0 ∷ 0 ∷ 0 ∷ 0 ∷ 0 ∷ length (flat (of-tables entriesIn) ps) ∷ 0 ∷ 0 ∷ []) (
+          (each-few (0 ∷ 0 ∷ 0 ∷ 0 ∷ 0 ∷ 0 ∷ 0 ∷ length (flat (of-tables entriesIn) ps) ∷ drop 8 none) (
             none-few,
             (
               none-few,
@@ -200,7 +207,7 @@ module _ (ps : List Provider) (f : Few (counted (lists ps))) where
                         none-few,
                         (
                           few-of 7 (of-tables entriesIn) refl,
-                          (none-few, (none-few, tt)),
+                          none-each (drop 8 rows),
                         ),
                       ),
                     ),

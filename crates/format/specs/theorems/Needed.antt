@@ -16,9 +16,9 @@ use Rattle.format.specs.steps.Needs.{entryCount, entriesAll, afterAll, o
 use Rattle.format.specs.theorems.Listed.{lists-itemized}
 
 -- how many entries each list has of some tables, with so many before; written out for each row
-module _ (a b c d h j : ℕ) where
+module _ (a b c d h : ℕ) (others : List ℕ) where
   abbrev rowsOf : ℕ → ℕ → ℕ → ℕ → List ℕ
-  rowsOf e f g i = a ∷ b ∷ c ∷ d ∷ e ∷ f ∷ g ∷ h ∷ i ∷ j ∷ []
+  rowsOf e f g i = a ∷ b ∷ c ∷ d ∷ e ∷ f ∷ g ∷ h ∷ i ∷ others
 
   abbrev counts : (e f g i : ℕ) → List Table → List ℕ
   counts e f g i ts =
