@@ -4,7 +4,7 @@ use mathlib.Core.Path.{_≡_, refl, ap, sym, _∙_}
 use mathlib.Core.Bool.{Bool, true, false}
 use mathlib.Core.List.{List, [], _∷_, _++_, map}
 use native.Mathlib.Omega.{arith}
-use lib.ListN.{length, set}
+use lib.ListN.{length, set, drop}
 use lib.Dec.{eqb}
 use Rattle.blob.specs.Le.{le}
 use Rattle.blob.specs.Laid.{flat}
@@ -181,7 +181,7 @@ needsOf es =
     ∷ length (flat (λ t. entriesIn (t .rows)) (kept es))
     ∷ length (flat (λ t. templatesIn (t .rows)) (kept es))
     ∷ length (unknowns es)
-    ∷ []
+    ∷ drop 10 area.none
 
 abbrev pub neededFor : Outcome (List Element) → Needed
 neededFor o =
@@ -213,5 +213,5 @@ module _ (s : List ℕ) (c at : ℕ) (v : verdict (run (elementsFrom c at) s) �
       let x : tables ≡ capped (length ts) = omega arith in
       let y : entries ≡ capped (length (flat (λ t. entriesIn (t .rows)) ts)) = ee ∙ ap capped (sym (kept-entries s c at v) ∙ entries-all 0 ts ∙ zero-add _) in
       let z : others ≡ capped (length (unknowns (values (run (elementsFrom c at) s)))) = eu ∙ ap capped (zero-add _) in
-      let w = e ∙ grown-all area.none ts ∙ ap (map capped) (after-all 0 0 0 0 0 0 ts 0 0 0 0) in
+      let w = e ∙ grown-all area.none ts ∙ ap (map capped) (after-all 0 0 0 0 0 (drop 9 area.none) ts 0 0 0 0) in
       ap (λ (l : List ℕ). set (set (set l (area.place area.TABLES) tables) (area.place area.ENTRIES) entries) (area.place area.UNKNOWN) others) w ∙ simp (x, y, z, zero-add)

@@ -14,6 +14,7 @@ use Rattle.blob.specs.declared.Verdict.the-variants as verdicts
 use Rattle.blob.specs.Reading.{Fault, Reading, got, room, Outcome, done, refused, choose, run, number, many, each, verdict, values}
 use Rattle.blob.specs.Laws.{run-after, run-stopped, run-number, run-room, run-got, finds-number, many-fine, many-count, fine-done, not-fine, refused-value}
 use Rattle.words.specs.Guid.{guid-found}
+use Rattle.format.specs.Area.{PROVIDERS, DESCRIPTORS, UNKNOWN2, place}
 use Rattle.format.specs.Field.{WEVT-descriptor-array, WEVT-unknown2-array}
 use Rattle.format.specs.Refuse.{whole}
 use Rattle.format.specs.Definition.{guidAt, step}

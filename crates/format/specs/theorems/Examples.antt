@@ -10,7 +10,7 @@ use Rattle.format.specs.Table.{CHAN, LEVL}
 use Rattle.format.specs.Entry.{TABLE-FIRST}
 use Rattle.format.specs.Map.{Mapped}
 use Rattle.format.specs.Provider.{Rows, definitions, events, maps, templates, Element, table, unknown}
-use Rattle.format.specs.Area.{MAPS, GUIDS, rows, none, more}
+use Rattle.format.specs.Area.{PROVIDERS, TABLES, EVENTS, MAPS, TEMPLATES, GUIDS, rows, none, more}
 use Rattle.format.specs.Lists.{Entry, Owned, lastOf, kept, mapList, tableEntries}
 use Rattle.format.specs.Answer.{areas, filled, moderate, own, too-small, with-room}
 use Rattle.format.specs.Lookup.{alike, among, byKey, byOffset, counts-fit, entriesFrom, guidsHeld, guidsOf, once, position, select, tableFits, tablesFit, wordOf}
@@ -73,7 +73,7 @@ first-map-entries = refl
 -- one provider with GUID 1 2 3 4, an EVNT and a TTBL; three events with one key, of which the last two have a template; three templates,
 -- two of them at 76
 abbrev some : List ℕ
-some = 1 ∷ 0 ∷ 0 ∷ 2 ∷ 0 ∷ 3 ∷ 0 ∷ 0 ∷ 3 ∷ 0 ∷ []
+some = more PROVIDERS 1 (more TABLES 2 (more EVENTS 3 (more TEMPLATES 3 none)))
 
 abbrev event : ℕ → List ℕ
 event at = 10 ∷ 1 ∷ 2 ∷ 3 ∷ 4 ∷ 5 ∷ 6 ∷ 7 ∷ 0 ∷ at ∷ replicate 6 0

@@ -9,10 +9,10 @@ use native.Mathlib.Nat.{zero-add, mul-zero, mul-suc, add-assoc, add-zero}
 use native.Mathlib.Omega.{arith}
 use borrow.Author.Tests.{eqb-true}
 use lib.Dec.{eqb}
-use lib.ListN.{length, getD, length-append}
+use lib.ListN.{length, getD, drop, length-append}
 use Rattle.blob.specs.Places.{Each}
 use Rattle.blob.specs.Laid.{flat, flat-single, flat-flat}
-use Rattle.format.specs.Area.{PROVIDERS, DESCRIPTORS, UNKNOWN2, TABLES, DEFINITIONS, EVENTS, MAPS, ENTRIES, TEMPLATES, UNKNOWN, rows, place, width, none}
+use Rattle.format.specs.Area.{TABLES, DEFINITIONS, EVENTS, MAPS, ENTRIES, TEMPLATES, UNKNOWN, Row, rows, place, width, none}
 use Rattle.format.specs.Map.{Mapped}
 use Rattle.format.specs.Provider.{Rows, Table, Provider}
 use Rattle.format.specs.Lists.{Entry, providerWords, descriptorWords, unknown2Words, definitionWords, eventWords, mapEntryWords, templateWords, unknownWords, kept, unknowns, Owned, ownedTables, ownedUnknowns, after, tableEntries, definitionsIn, eventsIn, mapsIn, templatesIn, mapList, lists}
@@ -54,7 +54,7 @@ wide-maps n (m ∷ ms) = more refl (wide-maps (n + length (m .entries)) ms)
 wide-unknowns : (n : ℕ) (ps : List Provider) → Wide (width UNKNOWN) (ownedUnknowns n ps)
 unfolding ownedUnknowns
 wide-unknowns n [] = empty
-wide-unknowns n (p ∷ ps) = wide-append (wide-map (width UNKNOWN) (unknownWords n) (λ u. refl) (unknowns (p .elements))) (wide-unknowns (suc n) ps)
+wide-unknowns n (p ∷ ps) = wide-append (wide-map _ (unknownWords n) (λ u. refl) (unknowns (p .elements))) (wide-unknowns (suc n) ps)
 
 -- the words of an entry, by its list's row
 abbrev pub words : ℕ → ℕ
@@ -63,23 +63,23 @@ words i = getD (map (λ r. r .words) rows) i 0
 pub lists-wide : (ps : List Provider) (i : ℕ) → i < length rows → Wide (words i) (getD (lists ps) i [])
 lists-wide ps =
     rw (lists-itemized ps) (first (λ i. Wide (words i) (getD (itemized ps) i [])) (length rows) (
-      wide-map (width PROVIDERS) providerWords (λ p. refl) (flat (λ p. p ∷ []) ps),
+      wide-map _ providerWords (λ p. refl) (flat (λ p. p ∷ []) ps),
       (
-        wide-map (width DESCRIPTORS) descriptorWords (λ d. refl) (flat (λ p. p .descriptors) ps),
+        wide-map _ descriptorWords (λ d. refl) (flat (λ p. p .descriptors) ps),
         (
-          wide-map (width UNKNOWN2) unknown2Words (λ w. refl) (flat (λ p. p .unknown2) ps),
+          wide-map _ unknown2Words (λ w. refl) (flat (λ p. p .unknown2) ps),
           (
             wide-tables none (ownedTables 0 ps),
             (
-              wide-map (width DEFINITIONS) definitionWords (λ d. refl) (flat (of-tables definitionsIn) ps),
+              wide-map _ definitionWords (λ d. refl) (flat (of-tables definitionsIn) ps),
               (
-                wide-map (width EVENTS) eventWords (λ e. refl) (flat (of-tables eventsIn) ps),
+                wide-map _ eventWords (λ e. refl) (flat (of-tables eventsIn) ps),
                 (
                   wide-maps 0 (flat (of-tables mapsIn) ps),
                   (
-                    wide-map (width ENTRIES) mapEntryWords (λ e. refl) (flat (of-tables entriesIn) ps),
+                    wide-map _ mapEntryWords (λ e. refl) (flat (of-tables entriesIn) ps),
                     (
-                      wide-map (width TEMPLATES) templateWords (λ t. refl) (flat (of-tables templatesIn) ps),
+                      wide-map _ templateWords (λ t. refl) (flat (of-tables templatesIn) ps),
                       (wide-unknowns 0 ps, tt),
                     ),
                   ),
@@ -119,24 +119,36 @@ tables-behind before [] = refl
 tables-behind before (t ∷ ts) = tables-behind (after before (t .rows)) ts
 
 -- list 7 those of maps
-maps-behind : (a b c d e f g h i j : ℕ) (ts : List Table) → behindAll MAPS (a ∷ b ∷ c ∷ d ∷ e ∷ f ∷ g ∷ h ∷ i ∷ j ∷ []) ts
-    ≡ a ∷ b ∷ c ∷ d ∷ e ∷ f ∷ g ∷ (h + length (flat (λ t. entriesIn (t .rows)) ts)) ∷ i ∷ j ∷ []
+maps-behind : (a b c d e f g h : ℕ) (others : List ℕ) (ts : List Table) → behindAll MAPS (a ∷ b ∷ c ∷ d ∷ e ∷ f ∷ g ∷ h ∷ others) ts
+    ≡ a ∷ b ∷ c ∷ d ∷ e ∷ f ∷ g ∷ (h + length (flat (λ t. entriesIn (t .rows)) ts)) ∷ others
 unfolding behindAll flat
-maps-behind a b c d e f g h i j [] = simp add-zero
-maps-behind a b c d e f g h i j (t ∷ ts) =
-    maps-behind a b c d e f g _ i j ts ∙ rw (entries-count (mapsIn (t .rows)), length-append, add-assoc)
+maps-behind a b c d e f g h others [] = simp add-zero
+maps-behind a b c d e f g h others (t ∷ ts) =
+    maps-behind a b c d e f g _ others ts ∙ rw (entries-count (mapsIn (t .rows)), length-append, add-assoc)
 
-pub tables-end : (ps : List Provider) → behindAll TABLES none (tables ps)
-    ≡ 0 ∷ 0 ∷ 0 ∷ 0 ∷ length (flat (of-tables definitionsIn) ps) ∷ length (flat (of-tables eventsIn) ps) ∷ length (flat (of-tables mapsIn) ps) ∷ 0 ∷ length (flat (of-tables templatesIn) ps) ∷ 0 ∷ []
-tables-end ps = tables-behind none (tables ps) ∙ after-all 0 0 0 0 0 0 (tables ps) 0 0 0 0 ∙ simp (zero-add, of-all definitionsIn, of-all eventsIn, of-all mapsIn, of-all templatesIn)
+abbrev pub ends : List Provider → List ℕ
+ends ps =
+    0 ∷ 0 ∷ 0 ∷ 0 ∷ length (flat (of-tables definitionsIn) ps) ∷ length (flat (of-tables eventsIn) ps) ∷ length (flat (of-tables mapsIn) ps) ∷ 0 ∷ length (flat (of-tables templatesIn) ps) ∷ drop 9 none
 
-maps-end : (ps : List Provider) → behindAll MAPS none (tables ps) ≡ 0 ∷ 0 ∷ 0 ∷ 0 ∷ 0 ∷ 0 ∷ 0 ∷ length (flat (of-tables entriesIn) ps) ∷ 0 ∷ 0 ∷ []
-maps-end ps = maps-behind 0 0 0 0 0 0 0 0 0 0 (tables ps) ∙ simp (zero-add, of-all entriesIn)
+pub tables-end : (ps : List Provider) → behindAll TABLES none (tables ps) ≡ ends ps
+tables-end ps = tables-behind none (tables ps) ∙ after-all 0 0 0 0 0 (drop 9 none) (tables ps) 0 0 0 0 ∙ simp (zero-add, of-all definitionsIn, of-all eventsIn, of-all mapsIn, of-all templatesIn)
+
+maps-end : (ps : List Provider) → behindAll MAPS none (tables ps) ≡ 0 ∷ 0 ∷ 0 ∷ 0 ∷ 0 ∷ 0 ∷ 0 ∷ length (flat (of-tables entriesIn) ps) ∷ drop 8 none
+maps-end ps = maps-behind 0 0 0 0 0 0 0 0 (drop 8 none) (tables ps) ∙ simp (zero-add, of-all entriesIn)
 
 each-few : (ns : List ℕ) → Each (λ n. n ≤ 65536) ns → Few ns
 each-few [] e i = omega arith
 each-few (n ∷ ns) e zero = e .0
 each-few (n ∷ ns) e (suc i) = each-few ns (e .1) i
+
+none-each : (rs : List Row) → Each (λ n. n ≤ 65536) (map (λ r. 0) rs)
+none-each [] = tt
+none-each (r ∷ rs) = (omega arith, none-each rs)
+
+none-few-all : (rs : List Row) → Few (map (λ r. 0) rs)
+none-few-all [] i = omega arith
+none-few-all (r ∷ rs) zero = omega arith
+none-few-all (r ∷ rs) (suc i) = none-few-all rs i
 
 module _ (ps : List Provider) (f : Few (counted (lists ps))) where
   -- what a list has of the providers, by its row
@@ -152,7 +164,7 @@ module _ (ps : List Provider) (f : Few (counted (lists ps))) where
       go : (t m : Bool) → eqb l TABLES ≡ t → eqb l MAPS ≡ m → Few (behindAll l none (tables ps))
       go true m e g =
           rw (eqb-true l TABLES e, tables-end ps)
-          (each-few (0 ∷ 0 ∷ 0 ∷ 0 ∷ length (flat (of-tables definitionsIn) ps) ∷ length (flat (of-tables eventsIn) ps) ∷ length (flat (of-tables mapsIn) ps) ∷ 0 ∷ length (flat (of-tables templatesIn) ps) ∷ 0 ∷ []) (
+          (each-few (0 ∷ 0 ∷ 0 ∷ 0 ∷ length (flat (of-tables definitionsIn) ps) ∷ length (flat (of-tables eventsIn) ps) ∷ length (flat (of-tables mapsIn) ps) ∷ 0 ∷ length (flat (of-tables templatesIn) ps) ∷ drop 9 none) (
             none-few,
             (
               none-few,
@@ -168,7 +180,7 @@ module _ (ps : List Provider) (f : Few (counted (lists ps))) where
                         few-of (place MAPS) (of-tables mapsIn) refl,
                         (
                           none-few,
-                          (few-of (place TEMPLATES) (of-tables templatesIn) refl, (none-few, tt)),
+                          (few-of (place TEMPLATES) (of-tables templatesIn) refl, none-each (drop 9 rows)),
                         ),
                       ),
                     ),
@@ -179,7 +191,7 @@ module _ (ps : List Provider) (f : Few (counted (lists ps))) where
           ))
       go false true e g =
           rw (eqb-true l MAPS g, maps-end ps)
-          (each-few (0 ∷ 0 ∷ 0 ∷ 0 ∷ 0 ∷ 0 ∷ 0 ∷ length (flat (of-tables entriesIn) ps) ∷ 0 ∷ 0 ∷ []) (
+          (each-few (0 ∷ 0 ∷ 0 ∷ 0 ∷ 0 ∷ 0 ∷ 0 ∷ length (flat (of-tables entriesIn) ps) ∷ drop 8 none) (
             none-few,
             (
               none-few,
@@ -195,7 +207,7 @@ module _ (ps : List Provider) (f : Few (counted (lists ps))) where
                         none-few,
                         (
                           few-of (place ENTRIES) (of-tables entriesIn) refl,
-                          (none-few, (none-few, tt)),
+                          none-each (drop 8 rows),
                         ),
                       ),
                     ),
@@ -206,7 +218,7 @@ module _ (ps : List Provider) (f : Few (counted (lists ps))) where
           ))
       go false false e g =
           rw (behindAll-same l e g none (tables ps))
-          (each-few none (none-few, (none-few, (none-few, (none-few, (none-few, (none-few, (none-few, (none-few, (none-few, (none-few, tt)))))))))))
+          (none-few-all rows)
 
   -- what is written in each list behind all providers
   pub list-few : (i : ℕ) → i < length rows → Counted (passedAll (number i) none ps)

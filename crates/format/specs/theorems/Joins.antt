@@ -1,13 +1,14 @@
 -- A reading's own lists always join: the lookups' tests find no fault in them, and the lookup by key gives the join of what was read.
 use Prim.{tt}
-use Prim.Native.Nat.{ℕ, suc, _+_, _/_, _≤_, _<_}
+use Prim.Native.Nat.{ℕ, zero, suc, _+_, _/_, _≤_, _<_}
 use mathlib.Core.Path.{_≡_, refl, ap, ap₂, sym, _∙_, subst}
 use mathlib.Core.Bool.{Bool, true, false}
 use mathlib.Core.List.{List, [], _∷_, _++_, map, map-append, append-assoc}
+use native.Mathlib.Nat.{zero-add, suc-add}
 use native.Mathlib.Numerals.{add-one}
 use native.Mathlib.Omega.{arith}
 use lib.ListN.{length, getD, take, drop, length-set, length-map, length-append}
-use lib.Seq.{getD-set-same}
+use lib.Seq.{getD-set-same, getD-drop}
 use lib.Dec.{leb, eqb}
 use borrow.Author.Tests.{lt-ltb, le-leb}
 use Rattle.blob.specs.Reading.{Outcome, done, refused, choose}
@@ -24,9 +25,9 @@ use Rattle.format.specs.Lookup.{entriesOf, wordOf, counts-fit, select, p
 use Rattle.format.specs.Join.{those, the-first, eventsOf, templatesOf, asked, templateGuid, join}
 use Rattle.format.specs.steps.Parts.{behindAll}
 use Rattle.format.specs.theorems.Grows.{behindAll-grows}
-use Rattle.format.specs.theorems.Listed.{owned, lists-itemized, first}
+use Rattle.format.specs.theorems.Listed.{owned, itemized, lists-itemized, First}
 use Rattle.format.specs.theorems.Needed.{mapList-length}
-use Rattle.format.specs.theorems.Fits.{tables, tables-end}
+use Rattle.format.specs.theorems.Fits.{tables, ends, tables-end}
 use Rattle.format.specs.theorems.Known.{All, Known, Sound, owned-known, known}
 use Rattle.format.specs.theorems.Codes.{refused-code}
 use Rattle.format.specs.theorems.Taken.{read, filled-length, taken}
@@ -81,28 +82,24 @@ owned-tables n (p ∷ ps) = map-append (λ o. o .table) (owned n (kept (p .eleme
     same-tables [] = refl
     same-tables (t ∷ ts) = ap (λ (l : List Table). t ∷ l) (same-tables ts)
 
+-- what holds of the first n numbers, and of all behind them
+first-then : (P : ℕ → Type 0) (n : ℕ) → First P n → ((j : ℕ) → P (n + j)) → (i : ℕ) → P i
+first-then P zero h g i = subst P (zero-add i) (g i)
+first-then P (suc n) h g zero = h .0
+first-then P (suc n) h g (suc i) = first-then (λ i. P (suc i)) n (h .1) (λ j. subst P (suc-add n j) (g j)) i
+
+none-at : (rs : List Row) (i : ℕ) → getD (map (λ (r : Row). zero) rs) i 0 ≡ zero
+none-at [] i = refl
+none-at (r ∷ rs) zero = refl
+none-at (r ∷ rs) (suc i) = none-at rs i
+
 -- no list has fewer entries than its tables
 tables-most : (ps : List Provider) (i : ℕ) → i < length rows → getD (behindAll TABLES none (tables ps)) i 0 ≤ getD (counted (lists ps)) i 0
-tables-most ps =
-    rw (tables-end ps, lists-itemized ps) (first _ (length rows) (
+tables-most ps i h =
+    rw (tables-end ps, lists-itemized ps) (first-then (λ i. getD (ends ps) i 0 ≤ getD (counted (itemized ps)) i 0) 9 (
       omega arith,
-      (
-        omega arith,
-        (
-          omega arith,
-          (
-            omega arith,
-            (
-              rw length-map (omega arith),
-              (
-                rw length-map (omega arith),
-                (rw mapList-length (omega arith), (omega arith, (rw length-map (omega arith), (omega arith, tt)))),
-              ),
-            ),
-          ),
-        ),
-      ),
-    ))
+      (omega arith, (omega arith, (omega arith, (rw length-map (omega arith), (rw length-map (omega arith), (rw mapList-length (omega arith), (omega arith, (rw length-map (omega arith), tt)))))))),
+    ) (λ j. omega (arith, none-at (drop 9 rows) j, getD-drop 9 (ends ps) j 0)) i)
 
 -- Of entries that are the words of some values, those that a test picks are the words of the values that it picks.
 module _ {A : Type 0} (words : A → Entry) (p : Entry → Bool) where

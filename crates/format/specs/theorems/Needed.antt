@@ -7,7 +7,7 @@ use native.Mathlib.Nat.{add-zero, zero-add, add-assoc}
 use native.Mathlib.Omega.{arith}
 use lib.ListN.{length, length-append, length-map}
 use Rattle.blob.specs.Laid.{flat}
-use Rattle.format.specs.Area.{none}
+use Rattle.format.specs.Area.{Row, rows, none}
 use Rattle.format.specs.Map.{Mapped}
 use Rattle.format.specs.Provider.{Rows, definitions, events, maps, templates, Table, Provider}
 use Rattle.format.specs.Lists.{kept, unknowns, Owned, ownedTables, ownedUnknowns, after, tableEntries, definitionsIn, eventsIn, mapsIn, templatesIn, mapList, lists}
@@ -16,9 +16,9 @@ use Rattle.format.specs.steps.Needs.{entryCount, entriesAll, afterAll, o
 use Rattle.format.specs.theorems.Listed.{lists-itemized}
 
 -- how many entries each list has of some tables, with so many before; written out for each row
-module _ (a b c d h j : ℕ) where
+module _ (a b c d h : ℕ) (others : List ℕ) where
   abbrev rowsOf : ℕ → ℕ → ℕ → ℕ → List ℕ
-  rowsOf e f g i = a ∷ b ∷ c ∷ d ∷ e ∷ f ∷ g ∷ h ∷ i ∷ j ∷ []
+  rowsOf e f g i = a ∷ b ∷ c ∷ d ∷ e ∷ f ∷ g ∷ h ∷ i ∷ others
 
   abbrev counts : (e f g i : ℕ) → List Table → List ℕ
   counts e f g i ts =
@@ -135,9 +135,13 @@ needs-added ns [] m h = sym (added-none ns has m h)
 needs-added ns (p ∷ ps) m h =
     needs-added (plus ns (needsOf p)) ps (plus-modest ns (needsOf p)) (plus-length ns (needsOf p) h ∙ h) ∙ added-more ns has p ps
 
+none-modest : (rs : List Row) → modest (map (λ r. 0) rs)
+none-modest [] = tt
+none-modest (r ∷ rs) = (omega arith, none-modest rs)
+
 pub needed : (ps : List Provider) → needsAll none ps ≡ map capped (counted (lists ps))
 unfolding added
-needed ps = needs-added none ps (omega arith, (omega arith, (omega arith, (omega arith, (omega arith, (omega arith, (omega arith, (omega arith, (omega arith, (omega arith, tt)))))))))) refl ∙ zeros ∙ ap (map capped) (sym (counted-has ps))
+needed ps = needs-added none ps (none-modest rows) refl ∙ zeros ∙ ap (map capped) (sym (counted-has ps))
   where
     zeros : added none has ps ≡ map capped (map (λ f. total f ps) has)
     zeros = simp zero-add

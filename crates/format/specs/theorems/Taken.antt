@@ -9,17 +9,17 @@ use native.Mathlib.Numerals.{add-one}
 use native.Mathlib.Omega.{arith}
 use lib.ListN.{length, getD, take, drop, set, length-append, List·getD-map}
 use lib.Seq.{take-nil, take-take, drop-drop, take-at, drop-at, take-set-le, take-append-seam, length-take-le, sets, sets-eq}
-use lib.Dec.{leb}
-use borrow.Author.Tests.{leb-true}
+use lib.Dec.{leb, eqb}
+use borrow.Author.Tests.{leb-true, eqb-true}
 use Rattle.blob.specs.Reading.{Outcome, done, then}
-use Rattle.blob.specs.Laws.{same, both, choose-done, then-done}
+use Rattle.blob.specs.Laws.{same, both, passes, choose-done, then-done}
 use Rattle.blob.specs.Laid.{laid, flat, length-laid}
 use Rattle.format.specs.Area.{Row, rows, place}
 use Rattle.format.specs.Crim.{Crim, crim}
 use Rattle.format.specs.Lists.{Entry, lists}
 use Rattle.format.specs.Answer.{own, moderate, areas, lent-enough, with-room, reading, counted, filled, held}
 use Rattle.format.specs.Lookup.{entriesFrom, entriesOf}
-use Rattle.format.specs.theorems.Listed.{first, number}
+use Rattle.format.specs.theorems.Listed.{number}
 use Rattle.format.specs.theorems.Fits.{Wide, empty, more, wide-length, lists-wide}
 
 -- some words behind a place, out of the words up to their end
@@ -122,7 +122,7 @@ read bytes words capacities c e =
 
 -- a row's number is that of its place
 place-number : (i : ℕ) → i < length rows → place (number i) ≡ i
-place-number = first (λ i. place (number i) ≡ i) (length rows) (refl, (refl, (refl, (refl, (refl, (refl, (refl, (refl, (refl, (refl, tt))))))))))
+place-number i h = eqb-true _ _ (passes (length rows) (λ i. eqb (place (number i)) i) refl i h)
 
 -- An accepted reading, with a capacity for each list.
 module _ (bytes words capacities : List ℕ) (c : Crim) (e : reading bytes words capacities ≡ done c) (n : length capacities ≡ length rows) where
