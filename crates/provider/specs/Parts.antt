@@ -20,7 +20,6 @@ use Rattle.format.specs.Refuse.{whole}
 use Rattle.format.specs.Definition.{guidAt, step}
 use Rattle.format.specs.Provider.{Element, wevtAt, wevtRead, descriptorAt, elementAt, elementsFrom, providerAt}
 use Rattle.format.specs.Crim.{describedAt}
-use Rattle.format.specs.Area.{PROVIDERS, DESCRIPTORS, UNKNOWN2, place}
 use Rattle.format.specs.Answer.{capped}
 use Rattle.format.specs.steps.Needs.{plus, providerRead}
 use Rattle.format.specs.declared.Guid.{Guid}
