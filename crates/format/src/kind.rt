@@ -16,13 +16,11 @@ pub const TASK: u32 = 7;
 pub const TTBL: u32 = 8;
 
 // Kinds of maps.
-pub mod map {
-    pub const VALUE: u32 = 1;
+pub const VALUE_MAP: u32 = 1;
 
-    pub const BIT: u32 = 2;
+pub const BIT_MAP: u32 = 2;
 
-    pub const OTHER: u32 = 3;
-}
+pub const OTHER_MAP: u32 = 3;
 
 // The kinds, and none.
 pub const KINDS: usize = 9;

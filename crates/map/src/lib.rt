@@ -32,7 +32,9 @@ use format::field::VMAP_HEADER;
 use format::field::VMAP_MAP_STRING;
 use format::field::VMAP_SIZE;
 use format::field::VMAP_SIZE_FIELD;
-use format::kind::map as kind;
+use format::kind::BIT_MAP;
+use format::kind::OTHER_MAP;
+use format::kind::VALUE_MAP;
 use format::list::width;
 use format::signature::BMAP;
 use format::signature::VMAP;
@@ -68,7 +70,7 @@ fn value_map(at: usize, size: u32, string: u32, count: u32, name: Name) -> Map
 {
     let offset = at as u32;
     Map {
-        kind: kind::VALUE,
+        kind: VALUE_MAP,
         signature: VMAP,
         offset,
         size,
@@ -130,7 +132,7 @@ fn other_map(end: usize, at: usize, signature: u32) -> Map
     ensures { λ r. ⌜ r ≡ otherMap (until end) at signature .map ⌝ }
 {
     Map {
-        kind: pick(signature, BMAP, kind::BIT, kind::OTHER),
+        kind: pick(signature, BMAP, BIT_MAP, OTHER_MAP),
         signature,
         offset: at as u32,
         size: 0,
@@ -213,7 +215,7 @@ fn put_map(area: &mut [u32], to: usize, before: u32, m: Map)
     requires { ⌜ to + width MAPS ≤ length (now area) ⌝ }
     ensures { λ _. ⌜ now (area .exit) ≡ laid (now (area .entry)) to (mapWords before m) ⌝ }
 {
-    let first = pick(m.kind, kind::VALUE, before, 0);
+    let first = pick(m.kind, VALUE_MAP, before, 0);
     let entry = [
         m.kind,
         m.signature,
