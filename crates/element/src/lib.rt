@@ -246,10 +246,7 @@ pub fn check(b: &[u8], start: usize, n: u32) -> Needed
     let e = check_elements(b, start, n);
     let verdict = e.verdict;
     if let Verdict::Refused(r) = verdict {
-        return Needed {
-            verdict: Verdict::Refused(r),
-            counts: [0; AREAS],
-        };
+        return counts::refused(r);
     }
     let places = e.places;
     let mut kind = CHAN;

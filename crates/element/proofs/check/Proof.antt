@@ -38,9 +38,9 @@ abbrev μ-loop : tie.MeasureT-loop
 
 returns : tie.Need-returns Inv-loop μ-loop
 returns c =
-    let m = c .before .before .before in
+    let m = c .before .before .before .before in
     let a = m .before .before .args in
-    sym (ap neededFor (no-elements (run (elementsFrom (a .n) (a .start)) (a .b .now)) (m .check-elements .result) _ (m .check-elements .ensures) (c .before .verdict .given .1)))
+    c .refused .ensures ∙ sym (ap neededFor (no-elements (run (elementsFrom (a .n) (a .start)) (a .b .now)) (m .check-elements .result) _ (m .check-elements .ensures) (c .before .before .verdict .given .1)))
 
 loop-holds : tie.Need-loop-holds Inv-loop μ-loop
 loop-holds c =
@@ -101,6 +101,7 @@ check-spec =
     μ-loop
     (λ c κs. search needs)
     (λ c. search needs)
+    (λ c κs. search needs)
     returns
     (λ c. search needs)
     loop-holds
