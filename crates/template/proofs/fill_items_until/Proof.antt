@@ -90,7 +90,7 @@ loop-again c =
     )
 
 returns : tie.Need-returns Inv-loop μ-loop
-unfolding total itemList
+unfolding total itemList flat
 returns c =
     let l = c .before .loop in
     let o = c .before .before .before .before .args in
