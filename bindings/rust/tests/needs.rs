@@ -2,19 +2,20 @@
 
 mod blobs;
 
-use blobs::{rich, rich_needs, shared, t, t_needs, with, z};
+use blobs::{rich, rich_needs, shared, t, t_needs, u, u_needs, with, z};
 use ducatfeather::{Capacities, List, Refusal, needs, raw, read, read_into};
 
 /// Blocks that are accepted.
-fn accepted() -> [Vec<u8>; 4] {
+fn accepted() -> [Vec<u8>; 5] {
     let drive = include_bytes!("../../../samples/drive.crim");
-    [z(), t(), rich(), drive.to_vec()]
+    [z(), t(), u(), rich(), drive.to_vec()]
 }
 
 #[test]
 fn what_each_list_needs() {
     assert_eq!(needs(&z()), Ok(Capacities::each(0)));
     assert_eq!(needs(&t()), Ok(t_needs()));
+    assert_eq!(needs(&u()), Ok(u_needs()));
     assert_eq!(needs(&rich()), Ok(rich_needs()));
     // What is lent behind the block doesn't matter.
     assert_eq!(needs(&[rich(), rich()].concat()), Ok(rich_needs()));
