@@ -25,6 +25,7 @@ static const struct fault faults[] = {
     /* A name. */
     {{{132, 75}}, DUCAT_BAD_OFFSET, NAME_OFFSET, 75, 152, 0, "a name before the TEMP"},
     {{{132, 1}}, DUCAT_BAD_OFFSET, NAME_OFFSET, 1, 152, 0, "a name far before the TEMP"},
+    {{{132, 76}}, DUCAT_CUT_SHORT, NAME, 76, 0x504d4554, 68, "a name where the TEMP starts, whose signature is no size"},
     {{{132, 145}}, DUCAT_BAD_OFFSET, NAME, 145, 144, 0, "a name past the TEMP"},
     {{{132, UINT32_MAX}}, DUCAT_BAD_OFFSET, NAME, UINT32_MAX, 144, 0, "a name far past the TEMP"},
     {{{132, 144}}, DUCAT_CUT_SHORT, NAME, 144, 4, 0, "a name at the TEMP's end"},
