@@ -136,20 +136,37 @@ pub fn rich_needs() -> Capacities {
 
 /// So many providers that share one WEVT, as T's, with so many templates.
 pub fn shared(providers: u32, templates: u32) -> Vec<u8> {
+    let mut b = sharing(providers, templates);
+    for _ in 0..templates {
+        b.0.extend(&t()[76..]);
+    }
+    b.set(4, b.here());
+    b.0
+}
+
+/// The same with one template, which has so many items without names.
+pub fn shared_items(providers: u32, items: u32) -> Vec<u8> {
+    let mut b = sharing(providers, 1);
+    let temp = b.signature(b"TEMP");
+    b.words(&[40 + 20 * items, items, 0, temp + 40, 0, 0, 0, 0, 0]);
+    b.words(&vec![0; 5 * items as usize]);
+    b.set(4, b.here());
+    b.0
+}
+
+/// The same up to the first TEMP. The TTBL ends where the block does.
+fn sharing(providers: u32, templates: u32) -> Block {
     let mut b = Block(b"CRIM".to_vec());
     let wevt = 16 + 20 * providers;
-    b.words(&[wevt + 40 + 40 * templates, 0, providers]);
+    b.words(&[0, 0, providers]);
     for _ in 0..providers {
         b.words(&[0, 0, 0, 0, wevt]);
     }
     b.signature(b"WEVT");
     b.words(&[0, 0, 1, 0, wevt + 28, 0]);
     b.signature(b"TTBL");
-    b.words(&[12 + 40 * templates, templates]);
-    for _ in 0..templates {
-        b.0.extend(&t()[76..]);
-    }
-    b.0
+    b.words(&[0, templates]);
+    b
 }
 
 /// A block while it is written.
