@@ -83,6 +83,10 @@ fn check_fields(b: &[u8], at: usize, size: u32) -> Verdict
     if let Verdict::Refused(r) = found {
         return Verdict::Refused(r);
     }
+    // Most TEMPs of some blocks have no items: for them the call is half of what there is to do.
+    if descriptors == 0 {
+        return Verdict::Fine;
+    }
     item::check(b, temp, at + size as usize, descriptors, offset)
 }
 
