@@ -9,6 +9,7 @@ use crate::rng::Rng;
 pub fn draft(rng: &mut Rng, least: usize) -> Draft {
     let scale = if rng.chance(2) { 150 } else { 3 };
     let mut draft = Draft::new(scale);
+    draft.odd = rng.chance(40);
     let count = rng.pick(&[0, 1, 1, 1, 1, 1, 2, 2, 2, 3, 4]).max(least);
     head(&mut draft, rng, count);
     for _ in 0..rng.below(3) {
