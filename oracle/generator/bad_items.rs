@@ -12,8 +12,8 @@ pub fn template(draft: &mut Draft, rng: &mut Rng) -> usize {
     if rng.chance(35) {
         array(draft, rng, &temp, count);
     } else {
-        // With two bad names that of the first item decides.
-        for _ in 0..rng.pick(&[1, 1, 2]) {
+        // With several bad names that of the first item decides.
+        for _ in 0..rng.pick(&[1, 1, 2, 3]) {
             let word = rng.pick(&temp.name_words);
             name(draft, rng, &temp, word);
         }

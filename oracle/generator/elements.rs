@@ -36,6 +36,9 @@ pub const LAYOUTS: [Layout; 5] = [
 /// How many sorts of element there are: the eight kinds and the unknown ones.
 pub const SORTS: usize = 9;
 
+/// Which of them is the TTBL.
+pub const TEMPLATES: usize = 6;
+
 const KNOWN: [&[u8; 4]; 8] = [
     b"CHAN", b"EVNT", b"KEYW", b"LEVL", b"MAPS", b"OPCO", b"TASK", b"TTBL",
 ];
@@ -47,7 +50,7 @@ pub fn write(draft: &mut Draft, rng: &mut Rng, sort: usize) -> usize {
             let count = draft.count(rng, 48);
             events(draft, rng, count)
         }
-        6 => {
+        TEMPLATES => {
             let count = draft.count(rng, items::longest(draft));
             templates(draft, rng, count)
         }

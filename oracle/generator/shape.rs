@@ -95,7 +95,12 @@ fn sorts(rng: &mut Rng, least: usize) -> Vec<usize> {
     let mut sorts: Vec<usize> = Vec::new();
     for _ in 0..count {
         let again = sorts.last().copied().filter(|_| rng.chance(15));
-        sorts.push(again.unwrap_or_else(|| rng.below(elements::SORTS)));
+        // TTBLs come more often than the others: there is most to get wrong in them.
+        let any = match rng.below(elements::SORTS + 2) {
+            elements::SORTS.. => elements::TEMPLATES,
+            sort => sort,
+        };
+        sorts.push(again.unwrap_or(any));
     }
     sorts
 }
