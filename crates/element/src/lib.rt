@@ -99,7 +99,7 @@ fn check_unknown(b: &[u8], at: usize) -> Verdict
     Verdict::Fine
 }
 
-// What a verdict is where there are no map entries.
+// What a verdict is where entries have no entries of their own.
 fn no_entries(v: Verdict) -> EntriesRead
     ensures { λ r. ⌜ r ≡ without-entries v ⌝ }
 {
@@ -120,7 +120,7 @@ fn check_events(b: &[u8], at: usize, h: Header) -> EntriesRead
     }
 }
 
-// Whether the table of a kind is fine whose header has been read, and how many map entries it has.
+// Whether the table of a kind is fine whose header has been read, and how many entries its entries have.
 fn check_table(b: &[u8], kind: u32, at: usize, h: Header) -> EntriesRead
     requires { ⌜ (1 ≤ kind) × (kind ≤ 8) × (at + header-length kind ≤ length (now b)) × (length (now b) ≤ 16777216) ⌝ }
     ensures { λ r. ⌜ r ≡ tableRead (run (tableAt kind at h) (now (b .entry))) ⌝ }
@@ -128,12 +128,12 @@ fn check_table(b: &[u8], kind: u32, at: usize, h: Header) -> EntriesRead
     match kind {
         EVNT => check_events(b, at, h),
         MAPS => map::check(b, at, h),
-        TTBL => no_entries(template::check(b, at, h)),
+        TTBL => template::check(b, at, h),
         _ => no_entries(definition::check_definitions(b, kind, at, h)),
     }
 }
 
-// Whether the element of a known kind at a place is fine, and how many map entries it has.
+// Whether the element of a known kind at a place is fine, and how many entries its entries have.
 fn check_element(b: &[u8], kind: u32, at: usize) -> EntriesRead
     requires { ⌜ (1 ≤ kind) × (kind ≤ 8) × (length (now b) ≤ 16777216) ⌝ }
     ensures { λ r. ⌜ r ≡ elementRead (run (elementOf kind at) (now (b .entry))) ⌝ }
@@ -158,12 +158,12 @@ pub fn descriptor_of(b: &[u8], at: usize) -> Descriptor
     }
 }
 
-// What going over a provider's elements finds: how many are of no known kind, how many map entries the MAPS that is kept has, where it stops
-// rising at 65,537, and where the last table of each kind stands.
+// What going over a provider's elements finds: how many are of no known kind, how many entries the entries of the last table of each kind
+// have, where the number stops rising at 65,537, and where that table stands.
 pub struct Elements {
     pub verdict: Verdict,
     pub unknown: u32,
-    pub entries: u32,
+    pub entries: [u32; KINDS],
     pub places: [u32; KINDS],
 }
 
@@ -174,7 +174,7 @@ fn refused(r: Refusal) -> Elements
     Elements {
         verdict: Verdict::Refused(r),
         unknown: 0,
-        entries: 0,
+        entries: [0; KINDS],
         places: [NONE; KINDS],
     }
 }
@@ -188,7 +188,7 @@ fn check_elements(b: &[u8], start: usize, n: u32) -> Elements
     let mut at = start;
     let mut left = n;
     let mut unknown = 0;
-    let mut entries = 0;
+    let mut entries = [0; KINDS];
     let mut places = [NONE; KINDS];
     while 0 < left {
         let d = descriptor_of(b, at);
@@ -201,11 +201,7 @@ fn check_elements(b: &[u8], start: usize, n: u32) -> Elements
         } else {
             match check_element(b, kind, d.offset as usize) {
                 EntriesRead::Refused(r) => return refused(r),
-                EntriesRead::Entries(e) => {
-                    if kind == MAPS {
-                        entries = e;
-                    }
-                }
+                EntriesRead::Entries(e) => entries[kind as usize] = e,
             }
             places[kind as usize] = d.offset;
         }
@@ -249,6 +245,7 @@ pub fn check(b: &[u8], start: usize, n: u32) -> Needed
         return counts::refused(r);
     }
     let places = e.places;
+    let entries = e.entries;
     let mut kind = CHAN;
     let mut left: u32 = 8;
     let mut tables = 0;
@@ -263,7 +260,8 @@ pub fn check(b: &[u8], start: usize, n: u32) -> Needed
         left -= 1;
     }
     counts[row::TABLES] = tables;
-    counts[row::ENTRIES] = e.entries;
+    counts[row::ENTRIES] = entries[MAPS as usize];
+    counts[row::ITEMS] = entries[TTBL as usize];
     counts[row::UNKNOWN] = bounds::sum(0, e.unknown);
     Needed {
         verdict: Verdict::Fine,

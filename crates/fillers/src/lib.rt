@@ -1,4 +1,4 @@
-// The fillers: what lists 2 to 10 have of a provider's descriptors, of its unknown2 words, of the tables that are kept, by kind, and of the
+// The fillers: what lists 2 to 12 have of a provider's descriptors, of its unknown2 words, of the tables that are kept, by kind, and of the
 // elements of no known kind.
 ghost use mathlib.Core.Path.{_≡_};
 ghost use mathlib.Core.Bool.{true};
@@ -96,6 +96,7 @@ fn has_entries(list: u32, kind: u32) -> bool
         list::EVENTS => kind == EVNT,
         list::MAPS => kind == MAPS,
         list::ENTRIES => kind == MAPS,
+        list::ITEMS => kind == TTBL,
         _ => kind == TTBL,
     }
 }
@@ -169,7 +170,7 @@ fn put_table(
     width::TABLES
 }
 
-// Stores what a list has of a table of a kind that has entries in it. List 7 counts the entries of its maps.
+// Stores what a list has of a table of a kind that has entries in it. List 7 counts the entries of its maps, list 12 the templates.
 fn put_rows(
     b: &[u8],
     list: u32,
@@ -202,6 +203,11 @@ fn put_rows(
             width::MAPS * count
         }
         list::ENTRIES => map::fill_entries(b, at, h, area),
+        list::ITEMS => {
+            let first = before[row::TEMPLATES];
+            before[row::TEMPLATES] = first + h.count;
+            template::fill_items(b, at, h, first, area)
+        }
         _ => {
             template::fill(b, at, h, area);
             width::TEMPLATES * count

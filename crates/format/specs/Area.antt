@@ -37,6 +37,10 @@ TEMPLATES = 9
 abbrev pub UNKNOWN : ℕ
 UNKNOWN = 10
 
+-- "list 12's area and capacity come last" (request 01)
+abbrev pub ITEMS : ℕ
+ITEMS = 12
+
 -- "list number 11", lent singly
 abbrev pub GUIDS : ℕ
 GUIDS = 11
@@ -61,11 +65,12 @@ rows =
     ∷ row ENTRIES 2
     ∷ row TEMPLATES 12
     ∷ row UNKNOWN 4
+    ∷ row ITEMS 9
     ∷ []
 
 -- how many they are
 abbrev pub AREAS : ℕ
-AREAS = 10
+AREAS = 11
 
 -- no entry has more words
 abbrev pub WIDEST : ℕ

@@ -8,12 +8,12 @@ use lib.Dec.{eqb}
 use Rattle.blob.specs.Reading.{choose}
 use Rattle.blob.specs.Laid.{flat}
 use Rattle.format.specs.Table.{EVNT, TTBL}
+use Rattle.format.specs.Template.{Template}
 use Rattle.format.specs.Provider.{Provider}
 use Rattle.format.specs.Lists.{Entry, guidWords, lastOf, eventsIn, templatesIn}
 use Rattle.format.specs.Lookup.{alike, once, keyWords}
 use Rattle.format.specs.declared.Key.{Key}
 use Rattle.format.specs.declared.Event.{Event}
-use Rattle.format.specs.declared.Template.{Template}
 
 -- the values that a test picks, in their order
 unfoldable pub those : {A : Type 0} → (A → Bool) → List A → List A

@@ -8,6 +8,7 @@ pub mod Entry
 pub mod Table
 pub mod Definition
 pub mod Event
+pub mod Item
 pub mod Template
 pub mod Map
 pub mod Provider

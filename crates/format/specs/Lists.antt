@@ -1,7 +1,7 @@
 -- The lists of an accepted blob, entry by entry and word by word.
 -- "Numbering starts at 0. Lists run provider by provider; within one, tables by kind, entries in file order, the rest in descriptor or
 -- array order." (the lists)
-use Prim.Native.Nat.{ℕ, suc, _+_}
+use Prim.Native.Nat.{ℕ, suc, _+_, _*_}
 use mathlib.Core.List.{List, [], _∷_, _++_, map}
 use lib.ListN.{length}
 use lib.Dec.{eqb}
@@ -9,12 +9,13 @@ use Rattle.blob.specs.Reading.{choose}
 use Rattle.blob.specs.Laid.{flat}
 use Rattle.format.specs.Area.{DEFINITIONS, EVENTS, MAPS, TEMPLATES, none, of, more}
 use Rattle.format.specs.Table.{kinds}
+use Rattle.format.specs.Item.{Item}
+use Rattle.format.specs.Template.{Template}
 use Rattle.format.specs.Map.{VALUE-MAP, Mapped}
 use Rattle.format.specs.Provider.{Rows, definitions, events, maps, templates, Table, Element, table, unknown, Provider}
 use Rattle.format.specs.declared.Guid.{Guid}
 use Rattle.format.specs.declared.Definition.{Definition}
 use Rattle.format.specs.declared.Event.{Event}
-use Rattle.format.specs.declared.Template.{Template}
 use Rattle.format.specs.declared.Map.{Map}
 use Rattle.format.specs.declared.MapEntry.{MapEntry}
 use Rattle.format.specs.declared.Descriptor.{Descriptor}
@@ -66,11 +67,18 @@ mapEntryWords e = e .identifier ∷ e .message ∷ []
 -- "9 templates | 12 | offset, size, descriptor count, name count, items offset, event type, GUID (4), binxml start, length"
 abbrev pub templateWords : Template → Entry
 templateWords t =
-    t .offset ∷ t .size ∷ t .descriptors ∷ t .names ∷ t .items ∷ t .event ∷ (guidWords (t .guid) ++ (t .start ∷ t .length ∷ []))
+    t .offset ∷ t .size ∷ t .descriptors ∷ t .names ∷ t .items-offset ∷ t .event ∷ (guidWords (t .guid) ++ (t .start ∷ t .length ∷ []))
 
 -- "10 unknown elements | 4 | provider number, signature, offset, size"
 abbrev pub unknownWords : ℕ → Unknown → Entry
 unknownWords provider u = provider ∷ u .signature ∷ u .offset ∷ u .size ∷ []
+
+-- "Items go to a new list of 9 words: template number; unknown1; the two types, input in the low byte; unknown3; unknown4; count and
+-- length, count in the low half; name offset; name start; name units." (request 01)
+abbrev pub itemWords : ℕ → Item → Entry
+itemWords template i =
+    template ∷ i .unknown1 ∷ (i .input + 256 * i .output) ∷ i .unknown3 ∷ i .unknown4 ∷ (i .count + 65536 * i .length)
+    ∷ i .offset ∷ i .name .start ∷ i .name .units ∷ []
 
 -- one table, or none
 abbrev pub or-else : List Table → List Table → List Table
@@ -163,6 +171,11 @@ unfoldable pub mapList : ℕ → List Mapped → List Entry
 mapList n [] = []
 mapList n (m ∷ ms) = mapWords n (m .map) ∷ mapList (n + length (m .entries)) ms
 
+-- the items of some templates, by the number of the first of these
+unfoldable pub itemList : ℕ → List Template → List Entry
+itemList n [] = []
+itemList n (t ∷ ts) = map (itemWords n) (t .items) ++ itemList (suc n) ts
+
 -- the lists, in the order of their rows
 unfoldable pub lists : List Provider → List (List Entry)
 lists ps =
@@ -178,4 +191,5 @@ lists ps =
     ∷ flat (λ m. map mapEntryWords (m .entries)) all-maps
     ∷ flat (λ o. map templateWords (templatesIn (o .table .rows))) tables
     ∷ ownedUnknowns 0 ps
+    ∷ itemList 0 (flat (λ o. templatesIn (o .table .rows)) tables)
     ∷ []

@@ -10,13 +10,12 @@ use Rattle.format.specs.Refuse.{whole, within, wrong-signature, offset-o
 use Rattle.format.specs.Table.{EVNT, MAPS, TTBL, kindOf, headerAt, header-length, stride, tableEnd}
 use Rattle.format.specs.Definition.{definitionsAt, step}
 use Rattle.format.specs.Event.{eventAt}
-use Rattle.format.specs.Template.{templatesAt}
+use Rattle.format.specs.Template.{Template, templatesAt}
 use Rattle.format.specs.Map.{Mapped, mapsAt}
 use Rattle.format.specs.declared.Header.{Header}
 use Rattle.format.specs.declared.Guid.{Guid}
 use Rattle.format.specs.declared.Definition.{Definition}
 use Rattle.format.specs.declared.Event.{Event}
-use Rattle.format.specs.declared.Template.{Template}
 use Rattle.format.specs.declared.Wevt.{Wevt}
 use Rattle.format.specs.declared.WevtRead.{WevtRead}
 use Rattle.format.specs.declared.WevtRead.the-variants as wevt

@@ -3,6 +3,7 @@
 -- 8 bytes of unknown elements; table headers and records (MAPS without 12 to 15); MAPS offsets; each map's signature; VMAP headers and
 -- entries; 40-byte TEMP headers; each name's size word and units up to and with the first zero unit (all, if none). Replaced duplicate
 -- tables count too. Bodies, BinXML and trailing bytes count only where they overlap these." (bytes a reading rests on)
+-- "Demand 3's bytes now take in the items and their names." (request 01)
 use Prim.Native.Nat.{ℕ, _+_, _*_}
 use mathlib.Core.List.{List, [], _∷_, _++_}
 use lib.ListN.{length}
@@ -12,7 +13,8 @@ use Rattle.blob.specs.Laid.{flat}
 use Rattle.blob.specs.Places.{span, rows}
 use Rattle.format.specs.Table.{stride}
 use Rattle.format.specs.Definition.{step}
-use Rattle.format.specs.Template.{next}
+use Rattle.format.specs.Item.{Item, itemsStart}
+use Rattle.format.specs.Template.{Template, next}
 use Rattle.format.specs.Map.{Mapped}
 use Rattle.format.specs.Provider.{Rows, definitions, events, maps, templates, Element, table, unknown, Provider}
 use Rattle.format.specs.Crim.{Crim}
@@ -42,12 +44,20 @@ unfoldable pub mapsBytes : ℕ → List Mapped → List ℕ
 mapsBytes at [] = []
 mapsBytes at (m ∷ ms) = mapBytes m ++ rows (λ p n. span p 4 ++ mapBytes n) (step 4) (at + 16) ms
 
--- "table headers and records (MAPS without 12 to 15)"; "40-byte TEMP headers"
+-- an item, and its name
+abbrev pub itemBytes : ℕ → Item → List ℕ
+itemBytes at i = span at 20 ++ nameBytes (i .offset) (i .name)
+
+-- "40-byte TEMP headers", and the items
+unfoldable pub templateBytes : ℕ → Template → List ℕ
+templateBytes at t = span at 40 ++ rows itemBytes (step 20) (itemsStart (at + t .size) (t .items-offset)) (t .items)
+
+-- "table headers and records (MAPS without 12 to 15)"
 unfoldable pub tableBytes : ℕ → ℕ → Rows → List ℕ
 tableBytes k at (definitions ds) = span at 12 ++ rows (definitionBytes k) (step (stride k)) (at + 12) ds
 tableBytes k at (events es) = span at 16 ++ rows (λ p e. span p 48) (step 48) (at + 16) es
 tableBytes k at (maps ms) = span at 12 ++ mapsBytes at ms
-tableBytes k at (templates ts) = span at 12 ++ rows (λ p t. span p 40) next (at + 12) ts
+tableBytes k at (templates ts) = span at 12 ++ rows templateBytes next (at + 12) ts
 
 -- "the first 8 bytes of unknown elements"
 unfoldable pub elementBytes : Element → List ℕ

@@ -11,16 +11,31 @@ use Rattle.format.specs.Refuse.{a-code, fine, truncated, wrong-signature
 use Rattle.format.specs.Region.{Region, inside, regionAt}
 use Rattle.format.specs.Table.{TTBL, header-length}
 use Rattle.format.specs.Definition.{guidAt}
+use Rattle.format.specs.Item.{Item, itemsFrom}
 use Rattle.format.specs.declared.Header.{Header}
 use Rattle.format.specs.declared.BlobPlace.{BlobPlace}
 use Rattle.format.specs.declared.TemplatePlace.{TemplatePlace}
 use Rattle.format.specs.declared.Items.{Items}
 use Rattle.format.specs.declared.Items.the-variants as items
-use Rattle.format.specs.declared.Template.{Template}
+use Rattle.format.specs.declared.Guid.{Guid}
 
 -- `TEMP` as a little-endian number
 abbrev pub TEMP : ℕ
 TEMP = 0x504D4554
+
+-- a TEMP, with its items
+pub record Template : Type 0 where
+  pub offset : ℕ
+  pub size : ℕ
+  pub descriptors : ℕ
+  pub names : ℕ
+  pub items-offset : ℕ
+  pub event : ℕ
+  pub guid : Guid
+  -- its BinXML
+  pub start : ℕ
+  pub length : ℕ
+  pub items : List Item
 
 -- "Offsets from the blob's start and offsets from a template's start are counted apart."
 abbrev pub blob-place : ℕ → BlobPlace
@@ -50,23 +65,25 @@ itemsAt size (items.Before b) = stop (record { told = λ n. itemsSays size n (it
 itemsAt size (items.Past t) = stop (record { told = λ n. itemsSays size n (items.Past t); coded = λ n. a-code })
 
 -- the fields of a TEMP whose size is right. "BinXML runs from TEMP byte 40 to the items; items below 40 give length 0, start still
--- TEMP + 40."
+-- TEMP + 40." The items come last: "all after its BinXML bounds" (request 01)
 abbrev pub templateFields : (at size : ℕ) → Reading Template
 templateFields at size =
     number 4 (at + 8) >>= λ descriptors. number 4 (at + 12) >>= λ names. number 4 (at + 16) >>= λ offset. number 4 (at + 20) >>= λ event.
     guidAt (at + 24) >>= λ guid.
     demand (not (eqb descriptors 0) || eqb names 0) (count-out TEMP-item-name-count-expected-0 (at + 12) names) (
     itemsAt size (itemsOf (blob-place at) size (blob-place offset)) >>= λ t.
+    itemsFrom at (at + size) descriptors offset >>= λ is.
     got (record {
       offset = at;
       size = size;
       descriptors = descriptors;
       names = names;
-      items = offset;
+      items-offset = offset;
       event = event;
       guid = guid;
       start = at + 40;
       length = t .0 - 40;
+      items = is;
     }))
 
 unfoldable pub templateAt : Region → ℕ → Reading Template

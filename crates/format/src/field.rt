@@ -77,3 +77,9 @@ pub const VMAP_SIZE: u8 = 96;
 pub const VMAP_ENTRIES_ARRAY: u8 = 99;
 
 pub const VMAP_MAP_STRING: u8 = 102;
+
+pub const TEMPLATE_ITEM_DESCRIPTORS: u8 = 137;
+
+pub const TEMPLATE_ITEM_NAME_OFFSET: u8 = 146;
+
+pub const TEMPLATE_ITEM_NAME: u8 = 149;

@@ -90,19 +90,6 @@ pub enum Items {
     Past(TemplatePlace),
 }
 
-// A TEMP.
-pub struct Template {
-    pub offset: u32,
-    pub size: u32,
-    pub descriptors: u32,
-    pub names: u32,
-    pub items: u32,
-    pub event: u32,
-    pub guid: Guid,
-    pub start: u32,
-    pub length: u32,
-}
-
 // A map of a MAPS: a VMAP (kind 1), a BMAP (2) or another (3). For the last two size, string, name and count are 0.
 pub struct Map {
     pub kind: u32,
@@ -122,7 +109,8 @@ pub enum MapRead {
     Refused(Refusal),
 }
 
-// What checking a MAPS, or any element, finds: how many map entries it has, where it stops rising at 65,537.
+// What checking an element finds: how many entries its own entries have, a MAPS's maps map entries and a TTBL's templates items, where
+// the number stops rising at 65,537.
 pub enum EntriesRead {
     Entries(u32),
     Refused(Refusal),

@@ -1,5 +1,5 @@
 // The lists that have an area in the lent words, a row for each: its number, and the words of its entries. specs/Area.antt says the same.
-pub const AREAS: usize = 10;
+pub const AREAS: usize = 11;
 
 pub const NUMBERS: [u32; AREAS] = [
     PROVIDERS,
@@ -12,6 +12,7 @@ pub const NUMBERS: [u32; AREAS] = [
     ENTRIES,
     TEMPLATES,
     UNKNOWN,
+    ITEMS,
 ];
 
 pub const WORDS: [usize; AREAS] = [
@@ -25,6 +26,7 @@ pub const WORDS: [usize; AREAS] = [
     width::ENTRIES,
     width::TEMPLATES,
     width::UNKNOWN,
+    width::ITEMS,
 ];
 
 // The numbers.
@@ -47,6 +49,8 @@ pub const ENTRIES: u32 = 8;
 pub const TEMPLATES: u32 = 9;
 
 pub const UNKNOWN: u32 = 10;
+
+pub const ITEMS: u32 = 12;
 
 // Lent singly, and so without a row.
 pub const GUIDS: u32 = 11;
@@ -72,6 +76,8 @@ pub mod row {
     pub const TEMPLATES: usize = 8;
 
     pub const UNKNOWN: usize = 9;
+
+    pub const ITEMS: usize = 10;
 }
 
 // The words of a list's entries.
@@ -95,6 +101,8 @@ pub mod width {
     pub const TEMPLATES: usize = 12;
 
     pub const UNKNOWN: usize = 4;
+
+    pub const ITEMS: usize = 9;
 }
 
 // No entry has more words.
@@ -110,7 +118,8 @@ pub const EACH: usize = width::PROVIDERS
     + width::MAPS
     + width::ENTRIES
     + width::TEMPLATES
-    + width::UNKNOWN;
+    + width::UNKNOWN
+    + width::ITEMS;
 
 // The most entries that a list can be lent.
 pub const MOST: u32 = 65536;

@@ -1,21 +1,24 @@
-// TTBL's templates: the check of a table's TEMPs, the reader of one that is fine, and the filler of list 9.
+// TTBL's templates: the check of a table's TEMPs with their items, and the fillers of lists 9 and 12.
 ghost use mathlib.Core.Path.{_≡_};
 ghost use Prim.Native.Nat.{_+_, _*_, _≤_};
 ghost use lib.ListN.{length};
 ghost use Rattle.blob.specs.Le.{le};
 ghost use Rattle.blob.specs.Reading.{run, many, verdict, values};
 ghost use Rattle.blob.specs.Laid.{laid, flat};
-ghost use Rattle.format.specs.Area.{TEMPLATES, width};
+ghost use mathlib.Core.List.{List};
+ghost use Rattle.format.specs.Area.{TEMPLATES, ITEMS, width};
 ghost use Rattle.format.specs.Region.{until};
 ghost use Rattle.format.specs.Template.{itemsOf, itemsAt, templateFields, templateAt, next, templatesAt};
-ghost use Rattle.format.specs.Lists.{templateWords};
+ghost use Rattle.format.specs.Item.{Item};
+ghost use Rattle.format.specs.Lists.{templateWords, itemList};
+ghost use Rattle.format.specs.steps.Needs.{itemCount, templatesRead};
 ghost use Rattle.template.specs.Temp.{binxmlLength, templateOf};
 use blob::Verdict;
 use format::BlobPlace;
 use format::EndRead;
+use format::EntriesRead;
 use format::Header;
 use format::Items;
-use format::Template;
 use format::TemplatePlace;
 use format::field::TEMP_HEADER;
 use format::field::TEMP_ITEM_NAME_COUNT_EXPECTED_0;
@@ -65,7 +68,7 @@ fn items_at(b: &[u8], size: u32, items: Items) -> Verdict
 
 // Whether the counts and the items of a TEMP are right, whose size is.
 fn check_fields(b: &[u8], at: usize, size: u32) -> Verdict
-    requires { ⌜ (at + 40 ≤ length (now b)) × (length (now b) ≤ 16777216) ⌝ }
+    requires { ⌜ (at + 40 ≤ length (now b)) × (at + size ≤ length (now b)) × (length (now b) ≤ 16777216) ⌝ }
     ensures { λ r. ⌜ r ≡ verdict (run (templateFields at size) (now (b .entry))) ⌝ }
 {
     let descriptors = blob::word(b, at + 8);
@@ -73,12 +76,13 @@ fn check_fields(b: &[u8], at: usize, size: u32) -> Verdict
     if descriptors == 0 && names != 0 {
         return Verdict::Refused(bounds::count_out(TEMP_ITEM_NAME_COUNT_EXPECTED_0, at + 12, names));
     }
-    let items = blob::word(b, at + 16);
-    items_at(
-        b,
-        size,
-        items_of(BlobPlace(at as u32), size, BlobPlace(items)),
-    )
+    let offset = blob::word(b, at + 16);
+    let temp = at as u32;
+    let found = items_at(b, size, items_of(BlobPlace(temp), size, BlobPlace(offset)));
+    if let Verdict::Refused(r) = found {
+        return Verdict::Refused(r);
+    }
+    item::check(b, temp, at + size as usize, descriptors, offset)
 }
 
 // Whether a TEMP of some size is right whose header stands in a region.
@@ -100,68 +104,47 @@ fn check_temp(b: &[u8], end: usize, at: usize, size: u32) -> Verdict
     check_fields(b, at, size)
 }
 
-// Whether n TEMPs stand one after another from a place of a region on. The step is the size of the TEMP before, where this one's is the
-// same, so that the processor need not wait for the word that it reads; where not, it is the new one and the TEMP is looked at again.
-// (With a `continue` for the `else`, the compiler steps by the word again.)
-fn check_until(b: &[u8], end: usize, start: usize, n: u32) -> Verdict
+// Whether n TEMPs stand one after another from a place of a region on, and how many items they have. The step is the size of the TEMP
+// before, where this one's is the same, so that the processor need not wait for the word that it reads; where not, it is the new one and
+// the TEMP is looked at again. (With a `continue` for the `else`, the compiler steps by the word again.)
+fn check_until(b: &[u8], end: usize, start: usize, n: u32) -> EntriesRead
     requires { ⌜ (start ≤ end) × (end ≤ length (now b)) × (length (now b) ≤ 16777216) ⌝ }
-    ensures { λ r. ⌜ r ≡ verdict (run (many (templateAt (until end)) next n start) (now (b .entry))) ⌝ }
+    ensures { λ r. ⌜ r ≡ templatesRead (run (many (templateAt (until end)) next n start) (now (b .entry))) ⌝ }
 {
     let mut at = start;
     let mut left = n;
     let mut same = 0;
+    let mut items = 0;
     while 0 < left {
         if end - at < 40 {
-            return Verdict::Refused(bounds::truncated(end, TEMP_HEADER, at, 40));
+            return EntriesRead::Refused(bounds::truncated(end, TEMP_HEADER, at, 40));
         }
         let size = blob::word(b, at + 4);
         if size == same {
             let found = check_temp(b, end, at, same);
             if let Verdict::Refused(r) = found {
-                return Verdict::Refused(r);
+                return EntriesRead::Refused(r);
             }
+            items = bounds::sum(items, blob::word(b, at + 8));
             at += same as usize;
             left -= 1;
         } else {
             same = size;
         }
     }
-    Verdict::Fine
+    EntriesRead::Entries(items)
 }
 
-// Whether the TEMPs of the TTBL whose header stands at a place are right.
-pub fn check(b: &[u8], at: usize, h: Header) -> Verdict
+// Whether the TEMPs of the TTBL whose header stands at a place are right, and how many items they have, where it stops rising at 65,537.
+pub fn check(b: &[u8], at: usize, h: Header) -> EntriesRead
     requires { ⌜ (at + 12 ≤ length (now b)) × (length (now b) ≤ 16777216) ⌝ }
-    ensures { λ r. ⌜ r ≡ verdict (run (templatesAt at h) (now (b .entry))) ⌝ }
+    ensures { λ r. ⌜ r ≡ templatesRead (run (templatesAt at h) (now (b .entry))) ⌝ }
 {
     let region = bounds::region_end(b, TTBL_SIZE, at, h.size, 12);
     match region {
-        EndRead::Refused(r) => Verdict::Refused(r),
+        EndRead::Refused(r) => EntriesRead::Refused(r),
         EndRead::End(end) => check_until(b, end, at + 12, h.count),
     }
-}
-
-// Stores a template's words from a place of the area on.
-fn put(area: &mut [u32], to: usize, t: Template)
-    requires { ⌜ to + width TEMPLATES ≤ length (now area) ⌝ }
-    ensures { λ _. ⌜ now (area .exit) ≡ laid (now (area .entry)) to (templateWords t) ⌝ }
-{
-    let g = t.guid;
-    let entry = [
-        t.offset,
-        t.size,
-        t.descriptors,
-        t.names,
-        t.items,
-        t.event,
-        g.a,
-        g.b,
-        g.c,
-        g.d,
-        t.start,
-        t.length,
-    ];
-    words::put(area, to, &entry);
 }
 
 // How long the BinXML of a TEMP is: from its start to the items, which stand at the TEMP's end where their offset is 0.
@@ -178,25 +161,30 @@ fn binxml(start: BlobPlace, size: u32, offset: BlobPlace) -> u32
     offset.0 - start.0
 }
 
-// A TEMP of some size that `check_temp` found fine.
-fn template_of(b: &[u8], at: usize, size: u32) -> Template
+// Stores the words of a TEMP of some size that `check_temp` found fine, from a place of the area on.
+fn put(b: &[u8], at: usize, size: u32, area: &mut [u32], to: usize)
     requires { ⌜ (at + 40 ≤ length (now b)) × (length (now b) ≤ 16777216) × (40 ≤ size) ⌝ }
-    ensures { λ r. ⌜ r ≡ templateOf (now (b .entry)) at size ⌝ }
+    requires { ⌜ to + width TEMPLATES ≤ length (now area) ⌝ }
+    ensures { λ _. ⌜ ((is : List Item) → now (area .exit) ≡ laid (now (area .entry)) to (templateWords (templateOf (now (b .entry)) at size is))) ⌝ }
 {
-    let offset = at as u32;
-    let start = offset + 40;
+    let start = at as u32 + 40;
     let items = blob::word(b, at + 16);
-    Template {
-        offset,
+    let g = guid_at(b, at + 24);
+    let entry = [
+        at as u32,
         size,
-        descriptors: blob::word(b, at + 8),
-        names: blob::word(b, at + 12),
+        blob::word(b, at + 8),
+        blob::word(b, at + 12),
         items,
-        event: blob::word(b, at + 20),
-        guid: guid_at(b, at + 24),
+        blob::word(b, at + 20),
+        g.a,
+        g.b,
+        g.c,
+        g.d,
         start,
-        length: binxml(BlobPlace(start), size, BlobPlace(items)),
-    }
+        binxml(BlobPlace(start), size, BlobPlace(items)),
+    ];
+    words::put(area, to, &entry);
 }
 
 // Stores the words of n TEMPs that `check_until` found fine. It steps as that does.
@@ -213,7 +201,7 @@ fn fill_until(b: &[u8], end: usize, start: usize, n: u32, area: &mut [u32])
     while 0 < left {
         let size = blob::word(b, at + 4);
         if size == same {
-            put(area, to, template_of(b, at, same));
+            put(b, at, same, area, to);
             at += same as usize;
             left -= 1;
             to += width::TEMPLATES;
@@ -234,4 +222,43 @@ pub fn fill(b: &[u8], at: usize, h: Header, area: &mut [u32])
         return;
     };
     fill_until(b, end, at + 12, h.count, area);
+}
+
+// Stores the words of the items of n TEMPs that `check_until` found fine, the first of which is the template with a number; hands back how
+// many words they are.
+fn fill_items_until(b: &[u8], end: usize, start: usize, n: u32, first: u32, area: &mut [u32]) -> usize
+    requires { ⌜ (start ≤ end) × (end ≤ length (now b)) × (length (now b) ≤ 16777216) × (first + n ≤ 65536) ⌝ }
+    requires { ⌜ verdict (run (many (templateAt (until end)) next n start) (now b)) ≡ Verdict.Fine ⌝ }
+    requires { ⌜ width ITEMS * itemCount (values (run (many (templateAt (until end)) next n start) (now b))) ≤ length (now area) ⌝ }
+    ensures { λ r. ⌜ r ≡ width ITEMS * itemCount (values (run (many (templateAt (until end)) next n start) (now (b .entry)))) ⌝ }
+    ensures { λ _. ⌜ now (area .exit) ≡ laid (now (area .entry)) 0 (flat (λ e. e) (itemList first (values (run (many (templateAt (until end)) next n start) (now (b .entry)))))) ⌝ }
+{
+    let mut at = start;
+    let mut left = n;
+    let mut number = first;
+    let mut to = 0;
+    while 0 < left {
+        let behind = at + blob::word(b, at + 4) as usize;
+        let items = blob::word(b, at + 8);
+        item::fill(b, at as u32, behind, items, blob::word(b, at + 16), number, &mut area[to..]);
+        at = behind;
+        left -= 1;
+        number += 1;
+        to += width::ITEMS * (items as usize);
+    }
+    to
+}
+
+// Stores the words of the items of a TTBL that `check` found fine, the first of whose templates has a number.
+pub fn fill_items(b: &[u8], at: usize, h: Header, first: u32, area: &mut [u32]) -> usize
+    requires { ⌜ (at + 12 ≤ length (now b)) × (length (now b) ≤ 16777216) × (first + h .count ≤ 65536) ⌝ }
+    requires { ⌜ verdict (run (templatesAt at h) (now b)) ≡ Verdict.Fine ⌝ }
+    requires { ⌜ width ITEMS * itemCount (values (run (templatesAt at h) (now b))) ≤ length (now area) ⌝ }
+    ensures { λ r. ⌜ r ≡ width ITEMS * itemCount (values (run (templatesAt at h) (now (b .entry)))) ⌝ }
+    ensures { λ _. ⌜ now (area .exit) ≡ laid (now (area .entry)) 0 (flat (λ e. e) (itemList first (values (run (templatesAt at h) (now (b .entry)))))) ⌝ }
+{
+    let EndRead::End(end) = bounds::region_end(b, TTBL_SIZE, at, h.size, 12) else {
+        return 0;
+    };
+    fill_items_until(b, end, at + 12, h.count, first, area)
 }
