@@ -19,8 +19,14 @@ fn check_name(b: &[u8], temp: u32, end: usize, offset: u32) -> Verdict
     requires { ⌜ (end ≤ length (now b)) × (length (now b) ≤ 16777216) ⌝ }
     ensures { λ r. ⌜ r ≡ verdict (run (itemNameAt temp end offset) (now (b .entry))) ⌝ }
 {
-    if offset != 0 && offset < temp {
-        return Verdict::Refused(bounds::offset_out(b.len(), TEMPLATE_ITEM_NAME_OFFSET, offset as usize));
+    if offset < temp {
+        if offset != 0 {
+            return Verdict::Refused(bounds::offset_out(
+                b.len(),
+                TEMPLATE_ITEM_NAME_OFFSET,
+                offset as usize,
+            ));
+        }
     }
     name::check(b, end, TEMPLATE_ITEM_NAME, offset)
 }
@@ -66,7 +72,8 @@ pub fn check(b: &[u8], temp: u32, end: usize, n: u32, offset: u32) -> Verdict
     check_row(b, temp, end, start, n)
 }
 
-// Stores the words of the item at a place, whose name is known to be fine; it is an item of the template with a number.
+// Stores the words of the item at a place, whose name is known to be fine; it is an item of the template with a number. Its two types
+// stand as the entry has them, and so do count and length.
 fn put(b: &[u8], temp: u32, end: usize, at: usize, number: u32, area: &mut [u32], to: usize)
     requires { ⌜ (at + 20 ≤ end) × (end ≤ length (now b)) × (length (now b) ≤ 16777216) ⌝ }
     requires { ⌜ verdict (run (itemAt temp end at) (now b)) ≡ Verdict.Fine ⌝ }
@@ -78,10 +85,10 @@ fn put(b: &[u8], temp: u32, end: usize, at: usize, number: u32, area: &mut [u32]
     let entry = [
         number,
         blob::word(b, at),
-        blob::byte(b, at + 4) + 256 * blob::byte(b, at + 5),
+        blob::half(b, at + 4),
         blob::half(b, at + 6),
         blob::word(b, at + 8),
-        blob::half(b, at + 12) + 65536 * blob::half(b, at + 14),
+        blob::word(b, at + 12),
         offset,
         name.start,
         name.units,

@@ -13,7 +13,7 @@ use Rattle.format.specs.Area.{MAPS, ENTRIES, width}
 use Rattle.format.specs.Definition.{step}
 use Rattle.format.specs.Map.{Mapped, entryAt, mapRead}
 use Rattle.format.specs.Answer.{capped}
-use Rattle.format.specs.steps.Needs.{entryCount, mapsRead}
+use Rattle.format.specs.steps.Needs.{total, entryCount, mapsRead}
 use Rattle.format.specs.Lists.{mapWords, mapEntryWords, mapList}
 use Rattle.format.specs.declared.Map.{Map}
 use Rattle.format.specs.declared.MapRead.the-variants as read
@@ -43,7 +43,7 @@ counted-all (done ms) = ap maps.Entries (omega arith)
 counted-all (refused r) = refl
 
 pub counted-none : (n : ℕ) → n ≤ 65537 → countedFrom n (done []) ≡ maps.Entries n
-unfolding entryCount
+unfolding total
 counted-none n h = ap maps.Entries (omega arith)
 
 -- the words of a map come before those of others
@@ -57,7 +57,7 @@ told-count s m t = ap length (t .entries) ∙ many-length entryAt (step 8) _ _ s
 
 -- once no map is left, no entry is
 pub count-none : (e start first : ℕ) (s : List ℕ) (left place : ℕ) → left ≤ 0 → entryCount (values (unread e start first s left place)) ≡ 0
-unfolding entryCount
+unfolding total
 count-none e start first s left place h = ap entryCount (values-none (listedAt e start first) (step 4) left place s h)
 
 module _ (e start first : ℕ) (s : List ℕ) (left place : ℕ) (h : 0 < left) where
@@ -91,7 +91,7 @@ module _ (e start first : ℕ) (s : List ℕ) (left place : ℕ) (h : 0 < left) 
 
     pub next-counted : (n r : ℕ) → r ≡ capped (n + x .count)
         → countedFrom n (unread e start first s left place) ≡ countedFrom r (unread e start first s (left - 1) (place + 4))
-    unfolding entryCount
+    unfolding total
     next-counted n r q =
         told-more (listedAt e start first) (step 4) (countedFrom n) (countedFrom r) left place s m (λ ms. ap maps.Entries (omega (arith, its-count))) (λ r. refl) h found
 
@@ -100,7 +100,7 @@ module _ (e start first : ℕ) (s : List ℕ) (left place : ℕ) (h : 0 < left) 
       next-fine = sym (many-more (listedAt e start first) (step 4) left place s m h found) ∙ v
 
       pub next-count : entryCount (values (unread e start first s left place)) ≡ x .count + entryCount (values (unread e start first s (left - 1) (place + 4)))
-      unfolding entryCount
+      unfolding total
       next-count = ap entryCount (values-more (listedAt e start first) (step 4) left place s m h found v) ∙ rw its-count
 
       pub next-maps : (n : ℕ) (area area' : List ℕ) (to : ℕ) → area' ≡ laid area to (mapWords n x)

@@ -7,8 +7,10 @@ use Rattle.blob.specs.Places.{Each}
 use Rattle.blob.specs.Reading.{Outcome, answer}
 use Rattle.blob.specs.Laid.{flat}
 use Rattle.format.specs.Area.{place, none, of}
+use Rattle.format.specs.Item.{Item}
+use Rattle.format.specs.Template.{Template}
 use Rattle.format.specs.Map.{Mapped}
-use Rattle.format.specs.Provider.{Rows, Table, Element, table, unknown, Provider}
+use Rattle.format.specs.Provider.{Rows, definitions, events, maps, templates, Table, Element, table, unknown, Provider}
 use Rattle.format.specs.Lists.{kept, unknowns, after, definitionsIn, eventsIn, mapsIn, templatesIn}
 use Rattle.format.specs.Answer.{capped}
 use Rattle.format.specs.declared.MapEntry.{MapEntry}
@@ -16,34 +18,48 @@ use Rattle.format.specs.declared.EntriesRead.{EntriesRead}
 use Rattle.format.specs.declared.EntriesRead.the-variants as entries
 use Rattle.format.specs.declared.Needed.{Needed}
 
--- the entries of some maps, and of some tables' maps
-unfoldable pub entryCount : List Mapped → ℕ
-entryCount [] = 0
-entryCount (m ∷ ms) = length (m .entries) + entryCount ms
+-- how many all of them have
+unfoldable pub total : {A : Type 0} → (A → ℕ) → List A → ℕ
+total f [] = 0
+total f (a ∷ vs) = f a + total f vs
 
-unfoldable pub entriesAll : ℕ → List Table → ℕ
-entriesAll n [] = n
-entriesAll n (t ∷ ts) = entriesAll (n + entryCount (mapsIn (t .rows))) ts
+-- the entries of some maps, the items of some templates, and what of these a table has
+abbrev pub entryCount : List Mapped → ℕ
+entryCount ms = total (λ m. length (m .entries)) ms
+
+abbrev pub itemCount : List Template → ℕ
+itemCount ts = total (λ t. length (t .items)) ts
+
+abbrev pub inner : Rows → ℕ
+inner (definitions ds) = 0
+inner (events es) = 0
+inner (maps ms) = entryCount ms
+inner (templates ts) = itemCount ts
 
 -- what was written in each list, with some more tables
 unfoldable pub afterAll : List ℕ → List Table → List ℕ
 afterAll before [] = before
 afterAll before (t ∷ ts) = afterAll (after before (t .rows)) ts
 
--- what the code answers for the maps of a MAPS
-abbrev pub mapsRead : Outcome (List Mapped) → EntriesRead
-mapsRead o = answer (λ ms. entries.Entries (capped (entryCount ms))) entries.Refused o
+-- what the code answers where something is counted: of a MAPS, of a TTBL, of any table and of an element
+abbrev pub countRead : {A : Type 0} → (A → ℕ) → Outcome A → EntriesRead
+countRead count o = answer (λ a. entries.Entries (capped (count a))) entries.Refused o
 
--- what it answers for a table, and for an element
+abbrev pub mapsRead : Outcome (List Mapped) → EntriesRead
+mapsRead o = countRead entryCount o
+
+abbrev pub templatesRead : Outcome (List Template) → EntriesRead
+templatesRead o = countRead itemCount o
+
 abbrev pub tableRead : Outcome Table → EntriesRead
-tableRead o = answer (λ t. entries.Entries (capped (entryCount (mapsIn (t .rows))))) entries.Refused o
+tableRead o = countRead (λ t. inner (t .rows)) o
 
 abbrev pub entriesOf : Element → ℕ
-entriesOf (table t) = entryCount (mapsIn (t .rows))
+entriesOf (table t) = inner (t .rows)
 entriesOf (unknown u) = 0
 
 abbrev pub elementRead : Outcome Element → EntriesRead
-elementRead o = answer (λ e. entries.Entries (capped (entriesOf e))) entries.Refused o
+elementRead o = countRead entriesOf o
 
 -- where a kept table stands; 4,294,967,295, which is no place of a blob, where none is kept
 abbrev pub placeOf : List Table → ℕ
@@ -56,6 +72,9 @@ of-tables items p = flat (λ t. items (t .rows)) (kept (p .elements))
 
 abbrev pub entriesIn : Rows → List MapEntry
 entriesIn r = flat (λ m. m .entries) (mapsIn r)
+
+abbrev pub itemsIn : Rows → List Item
+itemsIn r = flat (λ t. t .items) (templatesIn r)
 
 -- how many entries each list has of a provider, in the order of the rows
 abbrev pub has : List (Provider → ℕ)
@@ -70,6 +89,7 @@ has =
     ∷ (λ p. length (of-tables entriesIn p))
     ∷ (λ p. length (of-tables templatesIn p))
     ∷ (λ p. length (unknowns (p .elements)))
+    ∷ (λ p. length (of-tables itemsIn p))
     ∷ []
 
 abbrev pub needsOf : Provider → List ℕ

@@ -7,9 +7,9 @@ use lib.ListN.{length, getD}
 use lib.Dec.{eqb}
 use Rattle.blob.specs.Reading.{choose}
 use Rattle.blob.specs.Laid.{flat, laid}
-use Rattle.format.specs.Area.{PROVIDERS, DESCRIPTORS, UNKNOWN2, TABLES, DEFINITIONS, EVENTS, MAPS, ENTRIES, UNKNOWN, rows, of, more}
+use Rattle.format.specs.Area.{PROVIDERS, DESCRIPTORS, UNKNOWN2, TABLES, DEFINITIONS, EVENTS, MAPS, ENTRIES, TEMPLATES, UNKNOWN, ITEMS, rows, of, more}
 use Rattle.format.specs.Provider.{Table, Provider}
-use Rattle.format.specs.Lists.{providerWords, descriptorWords, unknown2Words, tableWords, definitionWords, eventWords, mapList, mapEntryWords, templateWords, unknownWords, kept, unknowns, after, definitionsIn, eventsIn, mapsIn, templatesIn}
+use Rattle.format.specs.Lists.{providerWords, descriptorWords, unknown2Words, tableWords, definitionWords, eventWords, mapList, mapEntryWords, templateWords, itemList, unknownWords, kept, unknowns, after, definitionsIn, eventsIn, mapsIn, templatesIn}
 use Rattle.format.specs.steps.Needs.{entryCount}
 
 -- no number is more than a list can have entries
@@ -38,13 +38,16 @@ tablePart l n before t =
     choose (eqb l DEFINITIONS) (flat definitionWords (definitionsIn (t .rows))) (
     choose (eqb l EVENTS) (flat eventWords (eventsIn (t .rows))) (
     choose (eqb l MAPS) (flat (λ e. e) (mapList (of ENTRIES before) (mapsIn (t .rows)))) (
-    choose (eqb l ENTRIES) (flat (λ m. flat mapEntryWords (m .entries)) (mapsIn (t .rows)))
-    (flat templateWords (templatesIn (t .rows)))))))
+    choose (eqb l ENTRIES) (flat (λ m. flat mapEntryWords (m .entries)) (mapsIn (t .rows))) (
+    choose (eqb l ITEMS) (flat (λ e. e) (itemList (of TEMPLATES before) (templatesIn (t .rows))))
+    (flat templateWords (templatesIn (t .rows))))))))
 
--- what is written behind it: list 4 counts its entries, list 7 its maps' entries
+-- what is written behind it: list 4 counts its entries, list 7 its maps' entries, list 12 its templates
 abbrev pub behind : ℕ → List ℕ → Table → List ℕ
 behind l before t =
-    choose (eqb l TABLES) (after before (t .rows)) (choose (eqb l MAPS) (more ENTRIES (entryCount (mapsIn (t .rows))) before) before)
+    choose (eqb l TABLES) (after before (t .rows)) (
+    choose (eqb l MAPS) (more ENTRIES (entryCount (mapsIn (t .rows))) before) (
+    choose (eqb l ITEMS) (more TEMPLATES (length (templatesIn (t .rows))) before) before))
 
 -- the same of some tables
 unfoldable pub tableParts : ℕ → ℕ → List ℕ → List Table → List ℕ

@@ -7,16 +7,17 @@ use lib.ListN.{replicate}
 use Rattle.blob.specs.Reading.{Outcome, done, refused, demand, run, then, _>>=_, number, many, each}
 use Rattle.blob.specs.Le.{le}
 use Rattle.blob.specs.Laid.{laid, flat}
-use Rattle.format.specs.Name.{nameAt}
+use Rattle.format.specs.Name.{text, sized, nameAt}
 use Rattle.format.specs.Region.{inside, bounded, regionAt}
 use Rattle.format.specs.Table.{signature, TTBL, kindIn, headerAt, tableEnd}
 use Rattle.format.specs.Definition.{guidAt, fieldsAt, definitionAt, definitionsAt}
+use Rattle.format.specs.Item.{itemNameAt, itemAt, itemsFrom}
 use Rattle.format.specs.Template.{TEMP, itemsAt, templateAt, templatesAt}
 use Rattle.format.specs.Map.{mapsAt}
 use Rattle.format.specs.Provider.{WEVT, eventsAt, tableAt, unknownAt, elementOf, elementAt, descriptorAt, wevtAt, providerAt}
 use Rattle.format.specs.Crim.{CRIM, Crim, header, describedAt, providersOf, crim}
 use Rattle.format.specs.Area.{rows, none}
-use Rattle.format.specs.Lists.{lastOf, unknowns, ownedTables, ownedUnknowns, tableEntries, mapList, lists}
+use Rattle.format.specs.Lists.{lastOf, unknowns, ownedTables, ownedUnknowns, tableEntries, mapList, itemList, lists}
 use Rattle.format.specs.Answer.{moderate, areas, with-room, reading, answer}
 use Rattle.format.specs.Listing.{says, number as numeral, listing}
 use Rattle.format.specs.declared.Answer.{Answer}
@@ -39,6 +40,18 @@ T ttbl temp names items =
     ∷ signature TTBL ∷ ttbl ∷ 1
     ∷ TEMP ∷ temp ∷ 0 ∷ names ∷ items ∷ 0 ∷ 0 ∷ 0 ∷ 0 ∷ 0 ∷ [])
 
+-- Blob U: T with an item. "152 bytes in T's layout, CRIM.size 152, TTBL.size 80; TEMP at 76 with size 68, item count 1, name count 1, items
+-- offset 116; the item's name offset (at 132) 136; at 136 the name: size 8, `A`, zero unit." The word at 100 is the first of its GUID
+abbrev pub U : (count items guid name size : ℕ) → List ℕ
+U count items guid name size =
+    flat four (
+    CRIM ∷ 152 ∷ 0 ∷ 1 ∷ 0 ∷ 0 ∷ 0 ∷ 0 ∷ 36
+    ∷ WEVT ∷ 80 ∷ 0 ∷ 1 ∷ 0 ∷ 64 ∷ 0
+    ∷ signature TTBL ∷ 80 ∷ 1
+    ∷ TEMP ∷ 68 ∷ count ∷ 1 ∷ items ∷ 0 ∷ guid ∷ 0 ∷ 0 ∷ 0
+    ∷ 0 ∷ 0 ∷ 0 ∷ 0 ∷ name
+    ∷ size ∷ 0x41 ∷ 0 ∷ 0 ∷ [])
+
 -- one entry of each list, and words for them
 abbrev pub one-each : List ℕ
 one-each = map (λ r. 1) rows
@@ -60,9 +73,9 @@ rowOf o = record { answer = answer o; lists = listed o }
 
 -- what the definition finds of some bytes
 found : List ℕ → Row
-unfolding demand run then _>>=_ number many each le laid flat nameAt inside bounded regionAt kindIn headerAt tableEnd guidAt fieldsAt definitionAt definitionsAt
-    itemsAt templateAt templatesAt mapsAt eventsAt tableAt unknownAt elementOf elementAt descriptorAt wevtAt providerAt header describedAt providersOf crim
-    lastOf unknowns ownedTables ownedUnknowns tableEntries mapList lists moderate areas with-room reading answer
+unfolding demand run then _>>=_ number many each le laid flat text sized nameAt inside bounded regionAt kindIn headerAt tableEnd guidAt fieldsAt definitionAt definitionsAt
+    itemNameAt itemAt itemsFrom itemsAt templateAt templatesAt mapsAt eventsAt tableAt unknownAt elementOf elementAt descriptorAt wevtAt providerAt header describedAt providersOf crim
+    lastOf unknowns ownedTables ownedUnknowns tableEntries mapList itemList lists moderate areas with-room reading answer
 found bytes =
     rowOf (reading bytes (replicate (areas rows one-each) 0) one-each)
 
@@ -90,6 +103,19 @@ table =
     ∷ record { bytes = T 52 40 0 75; row = refusal 5 85 75 116 0 }
     ∷ record { bytes = T 52 40 0 117; row = refusal 5 89 41 40 0 }
     ∷ record { bytes = T 52 40 1 0; row = refusal 4 88 88 1 0 }
+    -- U: T's entries, and an item of template 0 with the name at 140, one unit
+    ∷ record { bytes = U 1 116 0 136 8; row = with-item 0 136 140 1 }
+    -- "`U[84]=2`: 1 at 116, 40, 28. `U[92]=0`: 1 at 144, 20, 0."
+    ∷ record { bytes = U 2 116 0 136 8; row = refusal 1 137 116 40 28 }
+    ∷ record { bytes = U 1 0 0 136 8; row = refusal 1 137 144 20 0 }
+    -- "`U[132]=75`: 5 at 75, 152. `U[132]=100` with a sound name there is accepted"
+    ∷ record { bytes = U 1 116 0 75 8; row = refusal 5 146 75 152 0 }
+    ∷ record { bytes = U 1 116 4 100 8; row = with-item 4 100 104 0 }
+    -- "`U[132]=145`: 5 at 145, 144. `U[132]=144`: 1 at 144, 4, 0. `U[136]=3`: 3 at 136, 3. An odd size is 6"
+    ∷ record { bytes = U 1 116 0 145 8; row = refusal 5 149 145 144 0 }
+    ∷ record { bytes = U 1 116 0 144 8; row = refusal 1 149 144 4 0 }
+    ∷ record { bytes = U 1 116 0 136 3; row = refusal 3 149 136 3 0 }
+    ∷ record { bytes = U 1 116 0 136 7; row = refusal 6 149 136 0 0 }
     ∷ []
   where
     empty : Row
@@ -109,7 +135,7 @@ table =
                 place = 0;
                 first = 116;
                 second = 0;
-                counts = 1 ∷ 1 ∷ 0 ∷ 1 ∷ 0 ∷ 0 ∷ 0 ∷ 0 ∷ 1 ∷ 0 ∷ [];
+                counts = 1 ∷ 1 ∷ 0 ∷ 1 ∷ 0 ∷ 0 ∷ 0 ∷ 0 ∷ 1 ∷ 0 ∷ 0 ∷ [];
               };
           lists =
               (0 ∷ 0 ∷ 0 ∷ 0 ∷ 36 ∷ 80 ∷ 0 ∷ 1 ∷ 0 ∷ [])
@@ -122,6 +148,34 @@ table =
               ∷ []
               ∷ (76 ∷ 40 ∷ 0 ∷ 0 ∷ 0 ∷ 0 ∷ 0 ∷ 0 ∷ 0 ∷ 0 ∷ 116 ∷ 0 ∷ [])
               ∷ []
+              ∷ []
+              ∷ [];
+        }
+
+    with-item : (guid offset start units : ℕ) → Row
+    with-item guid offset start units =
+        record {
+          answer =
+              record {
+                code = 0;
+                field = 0;
+                place = 0;
+                first = 152;
+                second = 0;
+                counts = 1 ∷ 1 ∷ 0 ∷ 1 ∷ 0 ∷ 0 ∷ 0 ∷ 0 ∷ 1 ∷ 0 ∷ 1 ∷ [];
+              };
+          lists =
+              (0 ∷ 0 ∷ 0 ∷ 0 ∷ 36 ∷ 80 ∷ 0 ∷ 1 ∷ 0 ∷ [])
+              ∷ (64 ∷ 0 ∷ 0x4C425454 ∷ [])
+              ∷ []
+              ∷ (0 ∷ 8 ∷ 64 ∷ 80 ∷ 0 ∷ 0 ∷ 1 ∷ 0 ∷ 0 ∷ [])
+              ∷ []
+              ∷ []
+              ∷ []
+              ∷ []
+              ∷ (76 ∷ 68 ∷ 1 ∷ 1 ∷ 116 ∷ 0 ∷ guid ∷ 0 ∷ 0 ∷ 0 ∷ 116 ∷ 0 ∷ [])
+              ∷ []
+              ∷ (0 ∷ 0 ∷ 0 ∷ 0 ∷ 0 ∷ 0 ∷ offset ∷ start ∷ units ∷ [])
               ∷ [];
         }
 

@@ -9,19 +9,21 @@ use native.Mathlib.Nat.{zero-add, mul-zero, mul-suc, add-assoc, add-zero}
 use native.Mathlib.Omega.{arith}
 use borrow.Author.Tests.{eqb-true}
 use lib.Dec.{eqb}
-use lib.ListN.{length, getD, drop, length-append}
+use lib.ListN.{length, getD, set, drop, length-append, length-set}
+use lib.Seq.{getD-set-same, set-set}
 use Rattle.blob.specs.Places.{Each}
 use Rattle.blob.specs.Laid.{flat, flat-single, flat-flat}
-use Rattle.format.specs.Area.{TABLES, DEFINITIONS, EVENTS, MAPS, ENTRIES, TEMPLATES, UNKNOWN, Row, rows, place, width, none}
+use Rattle.format.specs.Area.{TABLES, DEFINITIONS, EVENTS, MAPS, ENTRIES, TEMPLATES, UNKNOWN, ITEMS, Row, rows, place, width, none, more as so-many-more}
+use Rattle.format.specs.Template.{Template}
 use Rattle.format.specs.Map.{Mapped}
 use Rattle.format.specs.Provider.{Rows, Table, Provider}
-use Rattle.format.specs.Lists.{Entry, providerWords, descriptorWords, unknown2Words, definitionWords, eventWords, mapEntryWords, templateWords, unknownWords, kept, unknowns, Owned, ownedTables, ownedUnknowns, after, tableEntries, definitionsIn, eventsIn, mapsIn, templatesIn, mapList, lists}
+use Rattle.format.specs.Lists.{Entry, providerWords, descriptorWords, unknown2Words, definitionWords, eventWords, mapEntryWords, templateWords, itemWords, unknownWords, kept, unknowns, Owned, ownedTables, ownedUnknowns, after, tableEntries, definitionsIn, eventsIn, mapsIn, templatesIn, mapList, itemList, lists}
 use Rattle.format.specs.Answer.{counted, capped}
-use Rattle.format.specs.steps.Needs.{afterAll, of-tables, entriesIn, has, needsAll}
-use Rattle.format.specs.steps.Parts.{Few, Counted, behindAll, parts, passedAll}
-use Rattle.format.specs.theorems.Grows.{behindAll-same, behindAll-length, passedAll-tables}
+use Rattle.format.specs.steps.Needs.{total, afterAll, of-tables, entriesIn, has, needsAll}
+use Rattle.format.specs.steps.Parts.{Few, Counted, behind, behindAll, parts, passedAll}
+use Rattle.format.specs.theorems.Grows.{set-same, behindAll-same, behindAll-length, passedAll-tables}
 use Rattle.format.specs.theorems.Listed.{itemized, lists-itemized, First, first, number, listed}
-use Rattle.format.specs.theorems.Needed.{total, total-length, after-all, entries-count, counted-has, needed}
+use Rattle.format.specs.theorems.Needed.{total-length, after-all, counted-has, needed}
 
 -- entries of so many words each
 pub data Wide (k : ℕ) : List Entry → Type 0 where
@@ -50,6 +52,11 @@ wide-maps : (n : ℕ) (ms : List Mapped) → Wide (width MAPS) (mapList n ms)
 unfolding mapList
 wide-maps n [] = empty
 wide-maps n (m ∷ ms) = more refl (wide-maps (n + length (m .entries)) ms)
+
+wide-items : (n : ℕ) (ts : List Template) → Wide (width ITEMS) (itemList n ts)
+unfolding itemList
+wide-items n [] = empty
+wide-items n (t ∷ ts) = wide-append (wide-map _ (itemWords n) (λ i. refl) (t .items)) (wide-items (suc n) ts)
 
 wide-unknowns : (n : ℕ) (ps : List Provider) → Wide (width UNKNOWN) (ownedUnknowns n ps)
 unfolding ownedUnknowns
@@ -80,7 +87,7 @@ lists-wide ps =
                     wide-map _ mapEntryWords (λ e. refl) (flat (of-tables entriesIn) ps),
                     (
                       wide-map _ templateWords (λ t. refl) (flat (of-tables templatesIn) ps),
-                      (wide-unknowns 0 ps, tt),
+                      (wide-unknowns 0 ps, (wide-items 0 (flat (of-tables templatesIn) ps), tt)),
                     ),
                   ),
                 ),
@@ -118,13 +125,19 @@ unfolding behindAll afterAll
 tables-behind before [] = refl
 tables-behind before (t ∷ ts) = tables-behind (after before (t .rows)) ts
 
--- list 7 those of maps
-maps-behind : (a b c d e f g h : ℕ) (others : List ℕ) (ts : List Table) → behindAll MAPS (a ∷ b ∷ c ∷ d ∷ e ∷ f ∷ g ∷ h ∷ others) ts
-    ≡ a ∷ b ∷ c ∷ d ∷ e ∷ f ∷ g ∷ (h + length (flat (λ t. entriesIn (t .rows)) ts)) ∷ others
-unfolding behindAll flat
-maps-behind a b c d e f g h others [] = simp add-zero
-maps-behind a b c d e f g h others (t ∷ ts) =
-    maps-behind a b c d e f g _ others ts ∙ rw (entries-count (mapsIn (t .rows)), length-append, add-assoc)
+-- where a list counts with each table so many entries of another, these are counted behind all
+counted-behind : (l c : ℕ) (count : Table → ℕ) → ((b : List ℕ) (t : Table) → behind l b t ≡ so-many-more c (count t) b)
+    → (b : List ℕ) (ts : List Table) → place c < length b → behindAll l b ts ≡ so-many-more c (total count ts) b
+unfolding behindAll total
+counted-behind l c count h b [] g = sym (set-same b (place c))
+counted-behind l c count h b (t ∷ ts) g =
+    let i = place c in
+    let n = getD b i 0 + count t in
+    ap (λ (x : List ℕ). behindAll l x ts) (h b t)
+    ∙ counted-behind l c count h (set b i n) ts (rw length-set g)
+    ∙ ap (λ m. set (set b i n) i (m + total count ts)) (getD-set-same b i n 0 g)
+    ∙ set-set b i n _
+    ∙ ap (set b i) (add-assoc (getD b i 0) (count t) (total count ts))
 
 abbrev pub ends : List Provider → List ℕ
 ends ps =
@@ -132,9 +145,6 @@ ends ps =
 
 pub tables-end : (ps : List Provider) → behindAll TABLES none (tables ps) ≡ ends ps
 tables-end ps = tables-behind none (tables ps) ∙ after-all 0 0 0 0 0 (drop 9 none) (tables ps) 0 0 0 0 ∙ simp (zero-add, of-all definitionsIn, of-all eventsIn, of-all mapsIn, of-all templatesIn)
-
-maps-end : (ps : List Provider) → behindAll MAPS none (tables ps) ≡ 0 ∷ 0 ∷ 0 ∷ 0 ∷ 0 ∷ 0 ∷ 0 ∷ length (flat (of-tables entriesIn) ps) ∷ drop 8 none
-maps-end ps = maps-behind 0 0 0 0 0 0 0 0 (drop 8 none) (tables ps) ∙ simp (zero-add, of-all entriesIn)
 
 each-few : (ns : List ℕ) → Each (λ n. n ≤ 65536) ns → Few ns
 each-few [] e i = omega arith
@@ -145,24 +155,44 @@ none-each : (rs : List Row) → Each (λ n. n ≤ 65536) (map (λ r. 0) rs)
 none-each [] = tt
 none-each (r ∷ rs) = (omega arith, none-each rs)
 
+none-at : (rs : List Row) (i : ℕ) → getD {A = ℕ} (map (λ r. 0) rs) i 0 ≡ 0
+none-at [] i = refl
+none-at (r ∷ rs) zero = refl
+none-at (r ∷ rs) (suc i) = none-at rs i
+
 none-few-all : (rs : List Row) → Few (map (λ r. 0) rs)
 none-few-all [] i = omega arith
 none-few-all (r ∷ rs) zero = omega arith
 none-few-all (r ∷ rs) (suc i) = none-few-all rs i
+
+few-set : (ns : List ℕ) (i n : ℕ) → Few ns → n ≤ 65536 → Few (set ns i n)
+few-set [] i n f h j = omega arith
+few-set (m ∷ ns) zero n f h zero = h
+few-set (m ∷ ns) zero n f h (suc j) = f (suc j)
+few-set (m ∷ ns) (suc i) n f h zero = f 0
+few-set (m ∷ ns) (suc i) n f h (suc j) = few-set ns i n (λ j. f (suc j)) h j
 
 module _ (ps : List Provider) (f : Few (counted (lists ps))) where
   -- what a list has of the providers, by its row
   few-of : (i : ℕ) {B : Type 0} (items : Provider → List B) → getD (map (λ g. total g ps) has) i 0 ≡ total (λ p. length (items p)) ps → length (flat items ps) ≤ 65536
   few-of i items e = omega (arith, ap (λ (ns : List ℕ). getD ns i 0) (counted-has ps), f i, e, total-length items ps)
 
+  -- list 7 counts the entries of maps, list 12 the templates
+  few-counted : (l c : ℕ) {B : Type 0} (items : Rows → List B) → ((b : List ℕ) (t : Table) → behind l b t ≡ so-many-more c (length (items (t .rows))) b) → place c < length rows
+      → getD (map (λ g. total g ps) has) (place c) 0 ≡ total (λ p. length (of-tables items p)) ps → Few (behindAll l none (tables ps))
+  few-counted l c items h g e =
+      rw (counted-behind l c (λ t. length (items (t .rows))) h none (tables ps) g)
+      (few-set none (place c) _ (none-few-all rows)
+      (omega (arith, few-of (place c) (of-tables items) e, ap (λ xs. length xs) (of-all items ps), total-length (λ (t : Table). items (t .rows)) (tables ps), none-at rows (place c))))
+
   few-behind : (l : ℕ) → Few (behindAll l none (tables ps))
-  few-behind l = go (eqb l TABLES) (eqb l MAPS) refl refl
+  few-behind l = go (eqb l TABLES) (eqb l MAPS) (eqb l ITEMS) refl refl refl
     where
       none-few : 0 ≤ 65536
       none-few = omega arith
 
-      go : (t m : Bool) → eqb l TABLES ≡ t → eqb l MAPS ≡ m → Few (behindAll l none (tables ps))
-      go true m e g =
+      go : (t m i : Bool) → eqb l TABLES ≡ t → eqb l MAPS ≡ m → eqb l ITEMS ≡ i → Few (behindAll l none (tables ps))
+      go true m i e g h =
           rw (eqb-true l TABLES e, tables-end ps)
           (each-few (0 ∷ 0 ∷ 0 ∷ 0 ∷ length (flat (of-tables definitionsIn) ps) ∷ length (flat (of-tables eventsIn) ps) ∷ length (flat (of-tables mapsIn) ps) ∷ 0 ∷ length (flat (of-tables templatesIn) ps) ∷ drop 9 none) (
             none-few,
@@ -189,36 +219,11 @@ module _ (ps : List Provider) (f : Few (counted (lists ps))) where
               ),
             ),
           ))
-      go false true e g =
-          rw (eqb-true l MAPS g, maps-end ps)
-          (each-few (0 ∷ 0 ∷ 0 ∷ 0 ∷ 0 ∷ 0 ∷ 0 ∷ length (flat (of-tables entriesIn) ps) ∷ drop 8 none) (
-            none-few,
-            (
-              none-few,
-              (
-                none-few,
-                (
-                  none-few,
-                  (
-                    none-few,
-                    (
-                      none-few,
-                      (
-                        none-few,
-                        (
-                          few-of (place ENTRIES) (of-tables entriesIn) refl,
-                          none-each (drop 8 rows),
-                        ),
-                      ),
-                    ),
-                  ),
-                ),
-              ),
-            ),
-          ))
-      go false false e g =
-          rw (behindAll-same l e g none (tables ps))
-          (none-few-all rows)
+      go false true i e g h =
+          rw (eqb-true l MAPS g)
+          (few-counted MAPS ENTRIES entriesIn (λ b t. ap (λ n. so-many-more ENTRIES n b) (total-length (λ m. m .entries) (mapsIn (t .rows)))) (omega arith) refl)
+      go false false true e g h = rw (eqb-true l ITEMS h) (few-counted ITEMS TEMPLATES templatesIn (λ b t. refl) (omega arith) refl)
+      go false false false e g h = rw (behindAll-same l e g h none (tables ps)) (none-few-all rows)
 
   -- what is written in each list behind all providers
   pub list-few : (i : ℕ) → i < length rows → Counted (passedAll (number i) none ps)

@@ -34,7 +34,7 @@ use Rattle.format.specs.theorems.Taken.{read, filled-length, taken}
 use Rattle.format.specs.theorems.Ranges.{events-range, templates-range}
 use Rattle.format.specs.declared.Answer.{Answer}
 use Rattle.format.specs.declared.Key.{Key}
-use Rattle.format.specs.declared.Template.{Template}
+use Rattle.format.specs.Template.{Template}
 use Rattle.format.specs.declared.TemplateFound.the-variants as template
 
 -- lists that have room have no count over its capacity

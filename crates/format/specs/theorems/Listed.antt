@@ -1,18 +1,19 @@
 -- Filling by Parts is what Lists says: the words of a list are those that are stored, provider by provider and table by table.
 use Prim.{Unit, tt}
 use Prim.Native.Nat.{ℕ, zero, suc, _+_, _<_}
-use mathlib.Core.Path.{_≡_, refl, ap, sym, _∙_}
+use mathlib.Core.Path.{_≡_, refl, ap, ap₂, sym, _∙_}
 use mathlib.Core.List.{List, [], _∷_, _++_, map, append-assoc}
 use native.Mathlib.Nat.{add-zero, add-assoc}
 use native.Mathlib.Omega.{arith}
 use lib.ListN.{length, getD, length-set}
 use lib.Seq.{getD-set-same}
 use Rattle.blob.specs.Laid.{flat, flat-append, flat-single, flat-map, flat-flat, map-flat}
+use Rattle.format.specs.Template.{Template}
 use Rattle.format.specs.Map.{Mapped}
 use Rattle.format.specs.Provider.{Rows, Table, Provider}
-use Rattle.format.specs.Lists.{Entry, providerWords, descriptorWords, unknown2Words, definitionWords, eventWords, mapEntryWords, templateWords, unknownWords, kept, unknowns, Owned, ownedTables, ownedUnknowns, tableEntries, definitionsIn, eventsIn, mapsIn, templatesIn, mapList, lists}
-use Rattle.format.specs.Area.{PROVIDERS, DESCRIPTORS, UNKNOWN2, TABLES, DEFINITIONS, EVENTS, MAPS, ENTRIES, TEMPLATES, UNKNOWN, rows, place, none, of, more}
-use Rattle.format.specs.steps.Needs.{entryCount, of-tables, entriesIn}
+use Rattle.format.specs.Lists.{Entry, providerWords, descriptorWords, unknown2Words, definitionWords, eventWords, mapEntryWords, templateWords, itemWords, unknownWords, kept, unknowns, Owned, ownedTables, ownedUnknowns, tableEntries, definitionsIn, eventsIn, mapsIn, templatesIn, mapList, itemList, lists}
+use Rattle.format.specs.Area.{PROVIDERS, DESCRIPTORS, UNKNOWN2, TABLES, DEFINITIONS, EVENTS, MAPS, ENTRIES, TEMPLATES, UNKNOWN, ITEMS, rows, place, none, of, more}
+use Rattle.format.specs.steps.Needs.{total, entryCount, of-tables, entriesIn}
 use Rattle.format.specs.steps.Parts.{tablePart, tableParts, behind, behindAll, part, passed, parts}
 use Rattle.format.specs.theorems.Grows.{behindAll-length}
 
@@ -32,7 +33,7 @@ owned-map : {B : Type 0} (words : B → Entry) (items : Rows → List B) (ps : L
     → flat (λ o. map words (items (o .table .rows))) (ownedTables 0 ps) ≡ map words (flat (of-tables items) ps)
 owned-map words items ps = sym (map-flat words (λ o. items (o .table .rows)) (ownedTables 0 ps)) ∙ ap (map words) (owned-flat items 0 ps)
 
--- each list as the words of its entries, one entry after another; in lists 4, 7 and 10 the words go by what was before
+-- each list as the words of its entries, one entry after another; in lists 4, 7, 10 and 12 the words go by what was before
 abbrev pub itemized : List Provider → List (List Entry)
 itemized ps =
     map providerWords (flat (λ p. p ∷ []) ps)
@@ -45,10 +46,13 @@ itemized ps =
     ∷ map mapEntryWords (flat (of-tables entriesIn) ps)
     ∷ map templateWords (flat (of-tables templatesIn) ps)
     ∷ ownedUnknowns 0 ps
+    ∷ itemList 0 (flat (of-tables templatesIn) ps)
     ∷ []
 
-all-entries : (ps : List Provider) → flat (λ m. m .entries) (flat (of-tables mapsIn) ps) ≡ flat (of-tables entriesIn) ps
-all-entries ps = simp (flat-flat (λ m. m .entries) (of-tables mapsIn), flat-flat (λ m. m .entries) (λ (t : Table). mapsIn (t .rows)))
+-- what the tables' entries have
+pub all-inner : {B C : Type 0} (inner : B → List C) (items : Rows → List B) (ps : List Provider)
+    → flat inner (flat (of-tables items) ps) ≡ flat (of-tables (λ r. flat inner (items r))) ps
+all-inner inner items ps = simp (flat-flat inner (of-tables items), flat-flat inner (λ (t : Table). items (t .rows)))
 
 pub lists-itemized : (ps : List Provider) → lists ps ≡ itemized ps
 unfolding lists
@@ -60,9 +64,10 @@ lists-itemized ps =
       owned-map definitionWords definitionsIn ps,
       owned-map eventWords eventsIn ps,
       owned-flat mapsIn 0 ps,
-      ← all-entries ps,
+      ← all-inner (λ m. m .entries) mapsIn ps,
       map-flat mapEntryWords (λ m. m .entries) (flat (of-tables mapsIn) ps),
       owned-map templateWords templatesIn ps,
+      owned-flat templatesIn 0 ps,
     )
 
 -- What gives a provider's words and then those of the rest, with what is written behind it, gives the words that are stored.
@@ -105,39 +110,65 @@ tables-parts : (n : ℕ) (b : List ℕ) (ps : List Provider) → tablesFrom b (o
 unfolding flat ownedTables tableEntries part
 tables-parts = parts-by TABLES (λ n b ps. tablesFrom b (ownedTables n ps)) (λ n b. refl) (λ n b p ps. tables-then n b (kept (p .elements)) (ownedTables (suc n) ps))
 
--- list 7: a map's first entry goes by the entries of the maps before it
-abbrev mapsFrom : ℕ → List Mapped → List ℕ
-mapsFrom n ms = flat (λ e. e) (mapList n ms)
+-- so many more are so many more, where there is a number of them
+more-here : (c : ℕ) (ns : List ℕ) (n : ℕ) → place c < length rows → length ns ≡ length rows → of c (more c n ns) ≡ of c ns + n
+more-here c ns n p h = getD-set-same ns (place c) _ 0 (omega arith)
 
+-- a list whose words go by how many entries another list has before them
+module _ {B : Type 0} (l c : ℕ) (items : Rows → List B) (from : ℕ → List B → List Entry) (count : List B → ℕ)
+    (known : place c < length rows)
+    (empty : (n : ℕ) → from n [] ≡ [])
+    (append : (n : ℕ) (xs ys : List B) → from n (xs ++ ys) ≡ from n xs ++ from (n + count xs) ys)
+    (has : (n : ℕ) (b : List ℕ) (t : Table) → flat (λ e. e) (from (of c b) (items (t .rows))) ≡ tablePart l n b t)
+    (counts : (b : List ℕ) (t : Table) → more c (count (items (t .rows))) b ≡ behind l b t)
+    (all : (n : ℕ) (b : List ℕ) (p : Provider) → tableParts l n b (kept (p .elements)) ≡ part l n b p) where
+  abbrev wordsFrom : ℕ → List B → List ℕ
+  wordsFrom n xs = flat (λ e. e) (from n xs)
+
+  running-then : (n : ℕ) (b : List ℕ) (ts : List Table) (xs : List B) → length b ≡ length rows
+      → wordsFrom (of c b) (flat (λ t. items (t .rows)) ts ++ xs) ≡ tableParts l n b ts ++ wordsFrom (of c (behindAll l b ts)) xs
+  unfolding flat tableParts behindAll
+  running-then n b [] xs h = refl
+  running-then n b (t ∷ ts) xs h =
+      let rest = flat (λ (u : Table). items (u .rows)) ts in
+      let k = of c b in
+      ap (wordsFrom k) (append-assoc (items (t .rows)) rest xs)
+      ∙ ap (flat (λ e. e)) (append k (items (t .rows)) (rest ++ xs))
+      ∙ flat-append (λ e. e) (from k (items (t .rows))) _
+      ∙ ap₂ (λ (w : List ℕ) m. w ++ wordsFrom m (rest ++ xs)) (has n b t) (sym (more-here c b (count (items (t .rows))) known h) ∙ ap (of c) (counts b t))
+      ∙ ap (λ (r : List ℕ). tablePart l n b t ++ r) (running-then n (behind l b t) ts xs (ap length (sym (counts b t)) ∙ length-set b _ _ ∙ h))
+      ∙ sym (append-assoc (tablePart l n b t) _ _)
+
+  running-parts : (n : ℕ) (b : List ℕ) (ps : List Provider) → length b ≡ length rows → wordsFrom (of c b) (flat (of-tables items) ps) ≡ parts l n b ps
+  unfolding flat parts
+  running-parts n b [] h = ap (flat (λ e. e)) (empty (of c b))
+  running-parts n b (p ∷ ps) h =
+      running-then n b (kept (p .elements)) (flat (of-tables items) ps) h
+      ∙ ap₂ (λ (w r : List ℕ). w ++ r) (all n b p) (running-parts (suc n) (passed l b p) ps (behindAll-length l b (kept (p .elements)) ∙ h))
+
+-- list 7: a map's first entry goes by the entries of the maps before it
 mapList-append : (n : ℕ) (ms ns : List Mapped) → mapList n (ms ++ ns) ≡ mapList n ms ++ mapList (n + entryCount ms) ns
-unfolding mapList entryCount
+unfolding mapList total
 mapList-append n [] ns = simp add-zero
 mapList-append n (m ∷ ms) ns = rw (mapList-append (n + length (m .entries)) ms ns, add-assoc)
 
--- so many more are so many more, where there is a number of them
-more-here : (ns : List ℕ) (n : ℕ) → length ns ≡ length rows → of ENTRIES (more ENTRIES n ns) ≡ of ENTRIES ns + n
-more-here ns n h = getD-set-same ns (place ENTRIES) _ 0 (omega arith)
+maps-parts : (ps : List Provider) → flat (λ e. e) (mapList 0 (flat (of-tables mapsIn) ps)) ≡ parts MAPS 0 none ps
+unfolding mapList tablePart part
+maps-parts ps =
+    running-parts MAPS ENTRIES mapsIn mapList entryCount (omega arith) (λ n. refl) mapList-append (λ n b t. refl) (λ b t. refl) (λ n b p. refl) 0 none ps refl
 
-maps-then : (n : ℕ) (b : List ℕ) (ts : List Table) (ms : List Mapped) → length b ≡ length rows
-    → mapsFrom (of ENTRIES b) (flat (λ t. mapsIn (t .rows)) ts ++ ms) ≡ tableParts MAPS n b ts ++ mapsFrom (of ENTRIES (behindAll MAPS b ts)) ms
-unfolding flat tableParts tablePart behindAll
-maps-then n b [] ms h = refl
-maps-then n b (t ∷ ts) ms h =
-    let rest = flat (λ (u : Table). mapsIn (u .rows)) ts in
-    let k = of ENTRIES b in
-    ap (mapsFrom k) (append-assoc (mapsIn (t .rows)) rest ms)
-    ∙ ap (flat (λ e. e)) (mapList-append k (mapsIn (t .rows)) (rest ++ ms))
-    ∙ flat-append (λ e. e) (mapList k (mapsIn (t .rows))) _
-    ∙ ap (λ m. tablePart MAPS n b t ++ mapsFrom m (rest ++ ms)) (sym (more-here b (entryCount (mapsIn (t .rows))) h))
-    ∙ ap (λ (r : List ℕ). tablePart MAPS n b t ++ r) (maps-then n (behind MAPS b t) ts ms (length-set b _ _ ∙ h))
-    ∙ sym (append-assoc (tablePart MAPS n b t) _ _)
+-- list 12: an item has its template's number
+itemList-append : (n : ℕ) (ts us : List Template) → itemList n (ts ++ us) ≡ itemList n ts ++ itemList (n + length ts) us
+unfolding itemList
+itemList-append n [] us = simp add-zero
+itemList-append n (t ∷ ts) us =
+    let e : suc n + length ts ≡ n + suc (length ts) = omega arith in
+    rw (itemList-append (suc n) ts us, e) (sym (append-assoc (map (itemWords n) (t .items)) _ _))
 
-maps-parts : (n : ℕ) (b : List ℕ) (ps : List Provider) → length b ≡ length rows → mapsFrom (of ENTRIES b) (flat (of-tables mapsIn) ps) ≡ parts MAPS n b ps
-unfolding flat parts part mapList
-maps-parts n b [] h = refl
-maps-parts n b (p ∷ ps) h =
-    maps-then n b (kept (p .elements)) (flat (of-tables mapsIn) ps) h
-    ∙ ap (λ (r : List ℕ). part MAPS n b p ++ r) (maps-parts (suc n) (passed MAPS b p) ps (behindAll-length MAPS b (kept (p .elements)) ∙ h))
+items-parts : (ps : List Provider) → flat (λ e. e) (itemList 0 (flat (of-tables templatesIn) ps)) ≡ parts ITEMS 0 none ps
+unfolding itemList tablePart part
+items-parts ps =
+    running-parts ITEMS TEMPLATES templatesIn itemList (λ ts. length ts) (omega arith) (λ n. refl) itemList-append (λ n b t. refl) (λ b t. refl) (λ n b p. refl) 0 none ps refl
 
 -- list 10: an unknown element has its provider's number
 unknown-parts : (n : ℕ) (b : List ℕ) (ps : List Provider) → flat (λ e. e) (ownedUnknowns n ps) ≡ parts UNKNOWN n b ps
@@ -176,12 +207,12 @@ listed ps =
               (
                 table-parts EVENTS eventWords eventsIn (λ n b t. refl) (λ n b p. refl) 0 none ps,
                 (
-                  maps-parts 0 none ps refl,
+                  maps-parts ps,
                   (
                     table-parts ENTRIES mapEntryWords entriesIn (λ n b t. flat-flat mapEntryWords (λ m. m .entries) (mapsIn (t .rows))) (λ n b p. refl) 0 none ps,
                     (
                       table-parts TEMPLATES templateWords templatesIn (λ n b t. refl) (λ n b p. refl) 0 none ps,
-                      (unknown-parts 0 none ps, tt),
+                      (unknown-parts 0 none ps, (items-parts ps, tt)),
                     ),
                   ),
                 ),

@@ -8,12 +8,13 @@ use native.Mathlib.Omega.{arith}
 use lib.ListN.{length, length-append, length-map}
 use Rattle.blob.specs.Laid.{flat}
 use Rattle.format.specs.Area.{Row, rows, none}
+use Rattle.format.specs.Template.{Template}
 use Rattle.format.specs.Map.{Mapped}
 use Rattle.format.specs.Provider.{Rows, definitions, events, maps, templates, Table, Provider}
-use Rattle.format.specs.Lists.{kept, unknowns, Owned, ownedTables, ownedUnknowns, after, tableEntries, definitionsIn, eventsIn, mapsIn, templatesIn, mapList, lists}
+use Rattle.format.specs.Lists.{kept, unknowns, Owned, ownedTables, ownedUnknowns, after, tableEntries, definitionsIn, eventsIn, mapsIn, templatesIn, mapList, itemList, lists}
 use Rattle.format.specs.Answer.{counted, capped}
-use Rattle.format.specs.steps.Needs.{entryCount, entriesAll, afterAll, of-tables, entriesIn, has, needsOf, plus, modest, needsAll}
-use Rattle.format.specs.theorems.Listed.{lists-itemized}
+use Rattle.format.specs.steps.Needs.{total, afterAll, of-tables, entriesIn, itemsIn, has, needsOf, plus, modest, needsAll}
+use Rattle.format.specs.theorems.Listed.{all-inner, lists-itemized}
 
 -- how many entries each list has of some tables, with so many before; written out for each row
 module _ (a b c d h : ℕ) (others : List ℕ) where
@@ -49,16 +50,6 @@ module _ (a b c d h : ℕ) (others : List ℕ) where
   after-all [] e f g i = simp add-zero
   after-all (t ∷ ts) e f g i = after-one e f g i t ts (after-all ts)
 
-pub entries-count : (ms : List Mapped) → entryCount ms ≡ length (flat (λ m. m .entries) ms)
-unfolding flat entryCount
-entries-count [] = refl
-entries-count (m ∷ ms) = simp (entries-count ms, length-append)
-
-pub entries-all : (n : ℕ) (ts : List Table) → entriesAll n ts ≡ n + length (flat (λ t. entriesIn (t .rows)) ts)
-unfolding flat entriesAll
-entries-all n [] = sym (add-zero n)
-entries-all n (t ∷ ts) = entries-all (n + entryCount (mapsIn (t .rows))) ts ∙ simp (entries-count (mapsIn (t .rows)), length-append, add-assoc)
-
 tableEntries-length : (w : List ℕ) (os : List Owned) → length (tableEntries w os) ≡ length os
 unfolding tableEntries
 tableEntries-length w [] = refl
@@ -68,6 +59,11 @@ pub mapList-length : (n : ℕ) (ms : List Mapped) → length (mapList n ms) ≡ 
 unfolding mapList
 mapList-length n [] = refl
 mapList-length n (m ∷ ms) = ap suc (mapList-length _ ms)
+
+itemList-length : (n : ℕ) (ts : List Template) → length (itemList n ts) ≡ length (flat (λ t. t .items) ts)
+unfolding itemList flat
+itemList-length n [] = refl
+itemList-length n (t ∷ ts) = simp (length-append, length-map, itemList-length (suc n) ts)
 
 ownedTables-length : (n : ℕ) (ps : List Provider) → length (ownedTables n ps) ≡ length (flat (λ p. kept (p .elements)) ps)
 unfolding flat ownedTables
@@ -79,21 +75,17 @@ unfolding flat ownedUnknowns
 ownedUnknowns-length n [] = refl
 ownedUnknowns-length n (p ∷ ps) = simp (length-append, length-map, ownedUnknowns-length (suc n) ps)
 
--- what all providers have, of what one has
-unfoldable pub total : (Provider → ℕ) → List Provider → ℕ
-total f [] = 0
-total f (p ∷ ps) = f p + total f ps
-
-pub total-length : {B : Type 0} (items : Provider → List B) (ps : List Provider) → total (λ p. length (items p)) ps ≡ length (flat items ps)
+-- what all have is what is in a row of all of it
+pub total-length : {A B : Type 0} (items : A → List B) (vs : List A) → total (λ a. length (items a)) vs ≡ length (flat items vs)
 unfolding flat total
 total-length items [] = refl
-total-length items (p ∷ ps) = rw (length-append, total-length items ps)
+total-length items (a ∷ vs) = rw (length-append, total-length items vs)
 
 -- each list has of all providers what it has of one after the other
 pub counted-has : (ps : List Provider) → counted (lists ps) ≡ map (λ f. total f ps) has
 counted-has ps =
     rw (lists-itemized ps)
-    (simp (length-map, tableEntries-length, mapList-length, ownedTables-length, ownedUnknowns-length, total-length (λ (p : Provider). p ∷ []), total-length (λ (p : Provider). p .descriptors), total-length (λ (p : Provider). p .unknown2), total-length (λ (p : Provider). kept (p .elements)), total-length (λ (p : Provider). unknowns (p .elements)), total-length (of-tables definitionsIn), total-length (of-tables eventsIn), total-length (of-tables mapsIn), total-length (of-tables entriesIn), total-length (of-tables templatesIn)))
+    (simp (length-map, tableEntries-length, mapList-length, ownedTables-length, ownedUnknowns-length, total-length (λ (p : Provider). p ∷ []), total-length (λ (p : Provider). p .descriptors), total-length (λ (p : Provider). p .unknown2), total-length (λ (p : Provider). kept (p .elements)), total-length (λ (p : Provider). unknowns (p .elements)), total-length (of-tables definitionsIn), total-length (of-tables eventsIn), total-length (of-tables mapsIn), total-length (of-tables entriesIn), total-length (of-tables templatesIn), itemList-length, all-inner (λ (t : Template). t .items) templatesIn, total-length (of-tables itemsIn)))
 
 -- what some providers need, with what is needed before them
 unfoldable added : List ℕ → List (Provider → ℕ) → List Provider → List ℕ

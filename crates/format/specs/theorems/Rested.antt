@@ -21,12 +21,13 @@ use Rattle.format.specs.Region.{Region, blob-end, until, inside, bounded
 use Rattle.format.specs.Table.{CHAN, EVNT, KEYW, LEVL, MAPS, OPCO, TASK, TTBL, signature, kinds, kindIn, header-length, stride, headerAt, tableEnd}
 use Rattle.format.specs.Definition.{guidAt, channelFields, keywordFields, taskFields, plainFields, fieldsAt, definitionAt, definitionsAt, step}
 use Rattle.format.specs.Event.{eventAt}
+use Rattle.format.specs.Item.{itemNameAt, itemAt, itemsStart, itemsFrom}
 use Rattle.format.specs.Template.{itemsAt, templateAt, templatesAt, next}
 use Rattle.format.specs.Map.{VMAP, BMAP, entryAt, valueMapAt, otherMap, mapAt, mapsAt}
 use Rattle.format.specs.Provider.{Table, definitions, plain, elementOf, eventsAt, tableAt, unknownAt, elementAt, descriptorAt, wevtAt, providerAt}
 use Rattle.format.specs.declared.CrimHeader.{CrimHeader}
 use Rattle.format.specs.Crim.{CRIM, Crim, header, describedAt, providersOf, crim}
-use Rattle.format.specs.Rests.{nameBytes, definitionBytes, mapBytes, mapsBytes, tableBytes, elementBytes, descriptorBytes, providerBytes, providersBytes, restsOn}
+use Rattle.format.specs.Rests.{nameBytes, definitionBytes, itemBytes, templateBytes, mapBytes, mapsBytes, tableBytes, elementBytes, descriptorBytes, providerBytes, providersBytes, restsOn}
 use Rattle.format.specs.declared.Header.{Header}
 use Rattle.format.specs.declared.Name.{Name}
 use Rattle.format.specs.declared.Guid.{Guid}
@@ -163,30 +164,43 @@ module _ (s : List ℕ) where
   items-asks size (items.Before b) = asks-stop
   items-asks size (items.Past t) = asks-stop
 
-  template-asks : (r : Region) (at : ℕ) → Ends r → Asks (templateAt r at) s (λ t ps. ps ≡ span at 40)
-  unfolding templateAt
-  template-asks r at h =
-      asks-in r _ _ h (λ w. asks-next 4 at (omega arith) (λ f ef. asks-demand _ _ (λ d. asks-next 4 (at + 4) (omega arith) (λ z ez. asks-demand _ _ (λ l.
-      asks-in r _ _ h (λ e. asks-next 4 (at + 8) (omega arith) (λ _ _. asks-next 4 (at + 12) (omega arith) (λ _ _. asks-next 4 (at + 16) (omega arith) (λ o eo. asks-next 4 (at + 20) (omega arith) (λ _ _.
-      asks-fixed _ _ (guid-asks (at + 24) (omega arith)) (λ g eg. asks-demand _ _ (λ c. asks-fixed [] _ (items-asks _ _) (λ t et.
-      asks-got (simp (span-join, span-append, append-nil)))))))))))))))
-
-  templates-asks : (at : ℕ) (h : Header) → Asks (templatesAt at h) s (λ ts ps. ps ≡ (rows (λ p t. span p 40) next (at + 12) ts))
-  unfolding templatesAt
-  templates-asks at h =
-      asks-fixed [] _ (region-asks _ at (h .size) _) (λ r e.
-      asks-so (asks-many (λ n p. Unit {0}) (λ p t. span p 40) (λ n p u. asks-so (template-asks r p e) (λ t ps g. (g, tt))) (h .count) (at + 12) tt) (λ ts ps g. g .0))
-
-  entry-asks : (at : ℕ) → at + 8 ≤ length s → Asks (entryAt at) s (λ e ps. ps ≡ span at 8)
-  unfolding entryAt
-  entry-asks at h = asks-next 4 at (omega arith) (λ i ei. asks-next 4 (at + 4) (omega arith) (λ m em. asks-got (simp (span-append, append-nil))))
-
   -- records of one length in a row, which fit the blob together
   asks-rows : {A : Type 0} {p : ℕ → Reading A} (w : ℕ) (q : ℕ → A → List ℕ) → ((at : ℕ) → at + w ≤ length s → Asks (p at) s (λ a ps. ps ≡ q at a))
       → (n at : ℕ) → at + w * n ≤ length s → Asks (many p (step w) n at) s (λ vs ps. ps ≡ (rows q (step w) at vs) × (length vs ≡ n))
   asks-rows w q one =
       asks-many (λ n at. at + w * n ≤ length s) q (λ n at i.
       let j : at + (w * n + w) ≤ length s = rw mul-suc at i in asks-so (one at (omega arith)) (λ a ps g. (g, omega arith)))
+
+  item-asks : (temp e at : ℕ) → e ≤ length s → at + 20 ≤ length s → Asks (itemAt temp e at) s (λ i ps. ps ≡ itemBytes at i)
+  unfolding itemAt itemNameAt
+  item-asks temp e at h w =
+      asks-next 4 at (omega arith) (λ _ _. asks-next 1 (at + 4) (omega arith) (λ _ _. asks-next 1 (at + 5) (omega arith) (λ _ _. asks-next 2 (at + 6) (omega arith) (λ _ _.
+      asks-next 4 (at + 8) (omega arith) (λ _ _. asks-next 2 (at + 12) (omega arith) (λ _ _. asks-next 2 (at + 14) (omega arith) (λ _ _. asks-next 4 (at + 16) (omega arith) (λ o _.
+      asks-bind _ (asks-demand _ _ (λ _. name-asks (until e) _ o h)) (λ n ps g.
+      asks-got (simp (span-join, append-nil) (asked-behind (span at 20) g)))))))))))
+
+  item-list-asks : (temp e n offset : ℕ) → e ≤ length s → Asks (itemsFrom temp e n offset) s (λ is ps. ps ≡ (rows itemBytes (step 20) (itemsStart e offset) is))
+  unfolding itemsFrom
+  item-list-asks temp e n offset h =
+      asks-in (until e) _ _ h (λ w. asks-so (asks-rows 20 itemBytes (λ at v. item-asks temp e at h v) n (itemsStart e offset) w) (λ is ps g. g .0))
+
+  template-asks : (r : Region) (at : ℕ) → Ends r → Asks (templateAt r at) s (λ t ps. ps ≡ templateBytes at t)
+  unfolding templateAt templateBytes
+  template-asks r at h =
+      asks-in r _ _ h (λ w. asks-next 4 at (omega arith) (λ f ef. asks-demand _ _ (λ d. asks-next 4 (at + 4) (omega arith) (λ z ez. asks-demand _ _ (λ l.
+      asks-in r _ _ h (λ e. asks-next 4 (at + 8) (omega arith) (λ _ _. asks-next 4 (at + 12) (omega arith) (λ _ _. asks-next 4 (at + 16) (omega arith) (λ o eo. asks-next 4 (at + 20) (omega arith) (λ _ _.
+      asks-fixed _ _ (guid-asks (at + 24) (omega arith)) (λ g eg. asks-demand _ _ (λ c. asks-fixed [] _ (items-asks _ _) (λ t et.
+      asks-bind _ (item-list-asks at (at + z) _ o e) (λ is ps k. asks-got (simp (span-join, append-nil) (asked-behind (span at 40) k))))))))))))))))
+
+  templates-asks : (at : ℕ) (h : Header) → Asks (templatesAt at h) s (λ ts ps. ps ≡ (rows templateBytes next (at + 12) ts))
+  unfolding templatesAt
+  templates-asks at h =
+      asks-fixed [] _ (region-asks _ at (h .size) _) (λ r e.
+      asks-so (asks-many (λ n p. Unit {0}) templateBytes (λ n p u. asks-so (template-asks r p e) (λ t ps g. (g, tt))) (h .count) (at + 12) tt) (λ ts ps g. g .0))
+
+  entry-asks : (at : ℕ) → at + 8 ≤ length s → Asks (entryAt at) s (λ e ps. ps ≡ span at 8)
+  unfolding entryAt
+  entry-asks at h = asks-next 4 at (omega arith) (λ i ei. asks-next 4 (at + 4) (omega arith) (λ m em. asks-got (simp (span-append, append-nil))))
 
   -- its signature's bytes come before
   value-map-asks : (r : Region) (at : ℕ) → Ends r → Asks (valueMapAt r at) s (λ m ps. span at 4 ++ ps ≡ mapBytes m)

@@ -42,9 +42,7 @@ pub record Enums : Type 1 where
   pub wevt : Exactly wevtTold format.Provider.wevtRead
   pub end : {A : Type 0} (told : A → ℕ) → Keeps endTold told (format.Region.endRead told)
   pub map : Keeps mapTold (λ m. m .map) format.Map.mapRead
-  pub maps : Keeps entriesTold (λ ms. capped (format.steps.Needs.entryCount ms)) format.steps.Needs.mapsRead
-  pub table : Keeps entriesTold (λ t. capped (format.steps.Needs.entryCount (format.Lists.mapsIn (t .rows)))) format.steps.Needs.tableRead
-  pub element : Keeps entriesTold (λ e. capped (format.steps.Needs.entriesOf e)) format.steps.Needs.elementRead
+  pub counted : {A : Type 0} (count : A → ℕ) → Keeps entriesTold (λ a. capped (count a)) (format.steps.Needs.countRead count)
   pub guids : Keeps guidsTold (λ gs. length gs) guidsFound
 
 pub enums : Enums
@@ -56,9 +54,7 @@ enums =
       wevt = exactly wevtTold (λ a. refl) (λ q. refl) (λ r. elim r [ format.declared.WevtRead.the-variants.Wevt a ↦ refl | format.declared.WevtRead.the-variants.Refused q ↦ refl ]);
       end = λ told. keeps endTold told format.declared.EndRead.the-variants.End (exactly endTold (λ a. refl) (λ q. refl) (λ r. elim r [ format.declared.EndRead.the-variants.End a ↦ refl | format.declared.EndRead.the-variants.Refused q ↦ refl ]));
       map = keeps mapTold (λ m. m .map) format.declared.MapRead.the-variants.Map (exactly mapTold (λ a. refl) (λ q. refl) (λ r. elim r [ format.declared.MapRead.the-variants.Map a ↦ refl | format.declared.MapRead.the-variants.Refused q ↦ refl ]));
-      maps = keeps entriesTold (λ ms. capped (format.steps.Needs.entryCount ms)) format.declared.EntriesRead.the-variants.Entries (exactly entriesTold (λ a. refl) (λ q. refl) (λ r. elim r [ format.declared.EntriesRead.the-variants.Entries a ↦ refl | format.declared.EntriesRead.the-variants.Refused q ↦ refl ]));
-      table = keeps entriesTold (λ t. capped (format.steps.Needs.entryCount (format.Lists.mapsIn (t .rows)))) format.declared.EntriesRead.the-variants.Entries (exactly entriesTold (λ a. refl) (λ q. refl) (λ r. elim r [ format.declared.EntriesRead.the-variants.Entries a ↦ refl | format.declared.EntriesRead.the-variants.Refused q ↦ refl ]));
-      element = keeps entriesTold (λ e. capped (format.steps.Needs.entriesOf e)) format.declared.EntriesRead.the-variants.Entries (exactly entriesTold (λ a. refl) (λ q. refl) (λ r. elim r [ format.declared.EntriesRead.the-variants.Entries a ↦ refl | format.declared.EntriesRead.the-variants.Refused q ↦ refl ]));
+      counted = λ count. keeps entriesTold (λ a. capped (count a)) format.declared.EntriesRead.the-variants.Entries (exactly entriesTold (λ a. refl) (λ q. refl) (λ r. elim r [ format.declared.EntriesRead.the-variants.Entries a ↦ refl | format.declared.EntriesRead.the-variants.Refused q ↦ refl ]));
       guids = keeps guidsTold (λ gs. length gs) format.declared.GuidsFound.the-variants.Given (exactly guidsTold (λ a. refl) (λ q. refl) (λ r. elim r [ format.declared.GuidsFound.the-variants.Given a ↦ refl | format.declared.GuidsFound.the-variants.Refused q ↦ refl ]));
     }
 

@@ -9,7 +9,7 @@ use Rattle.format.specs.Provider.{Provider}
 use Rattle.format.specs.Lists.{guidWords, providerWords, Owned, listOf, rowCount, tableWords, eventWords, templateWords}
 use Rattle.format.specs.Lookup.{wordOf, keyWords}
 use Rattle.format.specs.declared.Event.{Event}
-use Rattle.format.specs.declared.Template.{Template}
+use Rattle.format.specs.Template.{Template}
 
 provider-guid : (p : Provider) → take GUID (providerWords p) ≡ guidWords (p .guid)
 provider-guid p = refl
