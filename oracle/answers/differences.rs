@@ -52,11 +52,11 @@ impl fmt::Display for Case {
         f.write_str(match self {
             Case::OffsetWithoutItems => "an items offset without items",
             Case::OffsetZero => "items at offset 0",
-            Case::InHeader => "items in the header",
+            Case::InHeader => "items in the TEMP's header",
             Case::AtEnd => "items at the TEMP's end",
             Case::NameBefore => "a name before the TEMP",
             Case::NamePast => "a name past the TEMP",
-            Case::NameLater => "such a name behind one that is refused",
+            Case::NameLater => "a name outside the TEMP behind a refused one",
             Case::NameBeforeItemsEnd => "a name before the items' end",
             Case::NamePlace => "the place of a refused name",
         })

@@ -9,6 +9,8 @@ use answers::lists::{DESCRIPTORS, ITEMS, PROVIDERS, TABLES, TEMPLATES, row_of};
 use answers::{Answer, refusal};
 use generator::known;
 
+const DOCUMENT: &str = include_str!("../../docs/DIFFERENCES.md");
+
 fn main() -> ExitCode {
     let mut faults = Vec::new();
     let (cases, expected) = (known::cases(), expected());
@@ -21,13 +23,16 @@ fn main() -> ExitCode {
             )),
         }
     }
-    let documented = documented();
+    let inputs = documented();
     for (case, blob) in Case::ALL.into_iter().zip(known::item_differences()) {
         match told(&format!("the least with {case}"), &blob) {
             Some((_, Some(found))) if found == case => {}
             _ => faults.push(format!("the least with {case}: it isn't\n")),
         }
-        if !documented.contains(&blob) {
+        if !DOCUMENT.contains(&format!("\n| {case} |")) {
+            faults.push(format!("{case}: no row of the document\n"));
+        }
+        if !inputs.contains(&blob) {
             faults.push(format!(
                 "the least with {case}: not in the document: {blob:02x?}\n"
             ));
@@ -124,11 +129,11 @@ fn u_accepted() -> Answer {
     u
 }
 
-/// The inputs that docs/DIFFERENCES.md shows as hexadecimal bytes: those of lines that follow one
-/// another belong together, and behind them a line may say more.
+/// The inputs that the document shows as hexadecimal bytes: those of lines that follow one another
+/// belong together, and behind them a line may say more.
 fn documented() -> Vec<Vec<u8>> {
     let mut inputs = vec![Vec::new()];
-    for line in include_str!("../../docs/DIFFERENCES.md").lines() {
+    for line in DOCUMENT.lines() {
         let bytes = bytes(line);
         if bytes.is_empty() {
             inputs.push(Vec::new());
