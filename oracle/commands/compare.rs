@@ -19,7 +19,7 @@ use std::sync::atomic::{AtomicBool, AtomicU64, Ordering::Relaxed};
 use std::thread;
 
 use answers::differences::{self, Tally};
-use answers::lists::{EVENTS, LISTS, MAP_ENTRIES, ROWS, UNKNOWN2, row_of};
+use answers::lists::{EVENTS, ITEMS, LISTS, MAP_ENTRIES, ROWS, UNKNOWN2, row_of};
 use answers::{Answer, answer};
 use ducatfeather::raw;
 use generator::known::{self, Shared};
@@ -355,6 +355,7 @@ fn past_32_bits() -> Result<(), String> {
         (Shared::Unknown2, UNKNOWN2),
         (Shared::Events, EVENTS),
         (Shared::MapEntries, MAP_ENTRIES),
+        (Shared::Items, ITEMS),
     ] {
         let blob = known::shared(65_536, 65_537, what);
         let mut expected: Numbers = [0; NUMBERS];

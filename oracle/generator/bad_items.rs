@@ -25,17 +25,19 @@ pub fn template(draft: &mut Draft, rng: &mut Rng) -> usize {
 fn name(draft: &mut Draft, rng: &mut Rng, temp: &Temp, word: usize) {
     if rng.chance(30) {
         let any = rng.between(1, temp.start - 1);
-        draft.set(word, rng.pick(&[1, any, temp.start - 1]) as u32);
+        // At the TEMP itself the size is its signature.
+        draft.set(word, rng.pick(&[1, any, temp.start - 1, temp.start]) as u32);
     } else {
         names::refer_badly(draft, rng, word);
     }
 }
 
-/// Items that aren't all in the TEMP: too many of them, or from too far behind.
+/// Items that aren't all in the TEMP: too many of them, or from too far behind; or items over the
+/// header, whose names can be anything.
 fn array(draft: &mut Draft, rng: &mut Rng, temp: &Temp, count: usize) {
     let (start, end) = (temp.items(draft), draft.bytes.len());
     let fitting = ((end - start) / 20) as u32;
-    match rng.below(5) {
+    match rng.below(6) {
         0 => draft.set(temp.start + 8, fitting.saturating_add(past(rng))),
         // So many that 20 times the count, or that and the start, is little again in 32 bits.
         1 => {
@@ -45,6 +47,7 @@ fn array(draft: &mut Draft, rng: &mut Rng, temp: &Temp, count: usize) {
         }
         2 => draft.set(temp.start + 16, 0),
         3 => draft.set(temp.start + 16, end as u32),
+        4 => draft.set(temp.start + 16, (temp.start + rng.below(41)) as u32),
         _ => {
             let late = end - rng.between(0, 20 * count - 1);
             draft.set(

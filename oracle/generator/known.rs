@@ -104,6 +104,7 @@ pub enum Shared {
     Unknown2,
     Events,
     MapEntries,
+    Items,
 }
 
 /// Providers, so many, over one WEVT; each has so many entries of what they share.
@@ -146,6 +147,16 @@ pub fn shared(providers: usize, entries: usize, what: Shared) -> Vec<u8> {
             draft.word(entries as u32);
             draft.put(&vec![0; 8 * entries]);
             draft.end_exactly(map);
+        }
+        Shared::Items => {
+            draft.open(b"TTBL");
+            draft.word(1);
+            let temp = draft.open(b"TEMP");
+            draft.word(entries as u32);
+            draft.word(0);
+            draft.word(temp as u32 + 40);
+            draft.put(&vec![0; 20 + 20 * entries]);
+            draft.end_exactly(temp);
         }
     }
     draft.close();
