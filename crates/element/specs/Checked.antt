@@ -1,7 +1,7 @@
 -- What the code answers for an element, way by way.
 use Prim.Native.Nat.{ℕ, zero, suc, _+_, _≤_, _<_, min}
 use mathlib.Core.Path.{_≡_, refl, ap, sym, _∙_}
-use mathlib.Core.List.{List, []}
+use mathlib.Core.List.{List}
 use native.Mathlib.Omega.{arith}
 use lib.ListN.{length}
 use borrow.Author.Tests.{ne-eqb}
@@ -19,10 +19,10 @@ use Rattle.format.specs.theorems.Ends.{is-place, no-end}
 use Rattle.format.specs.Table.{EVNT, MAPS, TTBL, header-length, stride, headerAt, headerRead, tableEnd}
 use Rattle.format.specs.Definition.{definitionsAt}
 use Rattle.format.specs.Template.{templatesAt}
-use Rattle.format.specs.Map.{Mapped, mapsAt}
+use Rattle.format.specs.Map.{mapsAt}
 use Rattle.format.specs.Provider.{Rows, definitions, maps, templates, Table, table, plain, unknownAt, eventsAt, tableAt, elementOf}
-use Rattle.format.specs.Lists.{mapsIn}
-use Rattle.format.specs.steps.Needs.{entryCount, mapsRead, tableRead, elementRead}
+use Rattle.format.specs.Answer.{capped}
+use Rattle.format.specs.steps.Needs.{entryCount, itemCount, inner, countRead, mapsRead, templatesRead, tableRead, elementRead}
 use Rattle.format.specs.declared.Header.{Header}
 use Rattle.format.specs.declared.HeaderRead.the-variants as headers
 use Rattle.format.specs.declared.EndRead.the-variants as ends
@@ -30,7 +30,7 @@ use Rattle.format.specs.declared.EntriesRead.{EntriesRead}
 use Rattle.format.specs.declared.EntriesRead.the-variants as entries
 use Rattle.element.specs.Tables.{as-events, as-maps, as-templates, as-definitions, header-words}
 
--- where there are no map entries
+-- where entries have none of their own
 abbrev pub without-entries : Verdict → EntriesRead
 without-entries verdicts.Fine = entries.Entries 0
 without-entries (verdicts.Refused r) = entries.Refused r
@@ -66,27 +66,23 @@ module _ (at : ℕ) (h : Header) (s : List ℕ) where
   events-refused r f = run-stopped _ _ s r (no-end _ _ r f)
 
   pub events-found : (e : ℕ) → ends.End e ≡ endRead (λ e. e) (run (tableEnd EVNT at h) s) → tableRead (run (eventsAt at h) s) ≡ entries.Entries 0
-  unfolding eventsAt run entryCount
+  unfolding eventsAt run
   events-found e f =
       ap tableRead (run-after _ _ s e (is-place _ e f) ∙ run-number _ _ _ s ∙ run-after _ _ s _ (fine-done _ (events-fine s (h .count) (at + 16))))
 
--- tables with maps, and without
-with-maps : (k at : ℕ) (h : Header) (s : List ℕ) (r : Reading (List Mapped)) → mapsRead (run r s) ≡ tableRead (run (r >>= λ ms. got (plain k at h (maps ms))) s)
+-- tables whose entries have so many of their own, and those whose have none
+with-inner : {A : Type 0} (k at : ℕ) (h : Header) (s : List ℕ) (f : A → Rows) (count : A → ℕ) → ((a : A) → inner (f a) ≡ count a) → (r : Reading A)
+    → countRead count (run r s) ≡ tableRead (run (r >>= λ a. got (plain k at h (f a))) s)
 unfolding then run
-with-maps k at h s r = go (run r s) ∙ sym (ap tableRead (run-bind _ _ s))
+with-inner {A} k at h s f count n r = go (run r s) ∙ sym (ap tableRead (run-bind _ _ s))
   where
-    go : (o : Outcome (List Mapped)) → mapsRead o ≡ tableRead (then o (λ ms. done (plain k at h (maps ms))))
-    go (done ms) = refl
+    go : (o : Outcome A) → countRead count o ≡ tableRead (then o (λ a. done (plain k at h (f a))))
+    go (done a) = ap (λ m. entries.Entries (capped m)) (sym (n a))
     go (refused q) = refl
 
-without-maps : {A : Type 0} (k at : ℕ) (h : Header) (s : List ℕ) (f : A → Rows) → ((a : A) → mapsIn (f a) ≡ []) → (r : Reading A)
-    → without-entries (verdict (run r s)) ≡ tableRead (run (r >>= λ a. got (plain k at h (f a))) s)
-unfolding then run entryCount
-without-maps {A} k at h s f n r = go (run r s) ∙ sym (ap tableRead (run-bind _ _ s))
-  where
-    go : (o : Outcome A) → without-entries (verdict o) ≡ tableRead (then o (λ a. done (plain k at h (f a))))
-    go (done a) = rw (n a)
-    go (refused q) = refl
+without-inner : {A : Type 0} (o : Outcome A) → without-entries (verdict o) ≡ countRead (λ a. 0) o
+without-inner (done a) = refl
+without-inner (refused q) = refl
 
 -- a table, by its kind
 module _ (k at : ℕ) (h : Header) (s : List ℕ) where
@@ -94,13 +90,13 @@ module _ (k at : ℕ) (h : Header) (s : List ℕ) where
   checks-events e = ap (λ r. tableRead (run r s)) (sym (as-events k at h e))
 
   pub checks-maps : k ≡ MAPS → mapsRead (run (mapsAt at h) s) ≡ tableRead (run (tableAt k at h) s)
-  checks-maps e = with-maps k at h s _ ∙ ap (λ r. tableRead (run r s)) (sym (as-maps k at h e))
+  checks-maps e = with-inner k at h s maps entryCount (λ ms. refl) _ ∙ ap (λ r. tableRead (run r s)) (sym (as-maps k at h e))
 
-  pub checks-templates : k ≡ TTBL → without-entries (verdict (run (templatesAt at h) s)) ≡ tableRead (run (tableAt k at h) s)
-  checks-templates e = without-maps k at h s templates (λ ts. refl) _ ∙ ap (λ r. tableRead (run r s)) (sym (as-templates k at h e))
+  pub checks-templates : k ≡ TTBL → templatesRead (run (templatesAt at h) s) ≡ tableRead (run (tableAt k at h) s)
+  checks-templates e = with-inner k at h s templates itemCount (λ ts. refl) _ ∙ ap (λ r. tableRead (run r s)) (sym (as-templates k at h e))
 
   pub checks-definitions : (k ≡ EVNT → ⊥) → (k ≡ MAPS → ⊥) → (k ≡ TTBL → ⊥) → without-entries (verdict (run (definitionsAt k at h) s)) ≡ tableRead (run (tableAt k at h) s)
-  checks-definitions e m t = without-maps k at h s definitions (λ ds. refl) _ ∙ ap (λ r. tableRead (run r s)) (sym (as-definitions k at h e m t))
+  checks-definitions e m t = without-inner (run (definitionsAt k at h) s) ∙ with-inner k at h s definitions (λ ds. 0) (λ ds. refl) _ ∙ ap (λ r. tableRead (run r s)) (sym (as-definitions k at h e m t))
 
 -- an element of a known kind, by what was found of its header
 module _ (k at : ℕ) (s : List ℕ) (known : 1 ≤ k) where

@@ -17,17 +17,16 @@ use Rattle.blob.specs.Finds.{Finds, finds-got, finds-room, finds-choose, finds-
 use Rattle.format.specs.Table.{EVNT, MAPS, TTBL, kinds, kindOf, kindList, header-length, stride, headerAt, tableEnd}
 use Rattle.format.specs.Definition.{definitionsAt, step}
 use Rattle.format.specs.Event.{eventAt}
-use Rattle.format.specs.Template.{templatesAt}
+use Rattle.format.specs.Template.{Template, templatesAt}
 use Rattle.format.specs.Map.{Mapped, mapsAt}
 use Rattle.format.specs.Provider.{definitions, events, maps, templates, Table, Element, table, unknown, plain, eventsAt, tableAt, unknownAt, elementOf, elementAt, elementsFrom}
 use Rattle.format.specs.Area.{DEFINITIONS}
-use Rattle.format.specs.Lists.{lastOf, or-else, listOf, rowCount, mapsIn}
+use Rattle.format.specs.Lists.{lastOf, or-else, listOf, rowCount, mapsIn, templatesIn}
 use Rattle.format.specs.theorems.Listed.{first}
 use Rattle.format.specs.theorems.Rested.{kind-cases}
 use Rattle.format.specs.declared.Header.{Header}
 use Rattle.format.specs.declared.Definition.{Definition}
 use Rattle.format.specs.declared.Event.{Event}
-use Rattle.format.specs.declared.Template.{Template}
 use Rattle.format.specs.declared.Descriptor.{Descriptor}
 
 -- the table of a kind whose header was read
@@ -38,6 +37,7 @@ pub record Told (k at : ℕ) (h : Header) (t : Table) : Type 0 where
   pub count : rowCount (t .rows) ≡ h .count
   pub list : 1 ≤ k → k ≤ 8 → listOf (t .rows) ≡ kindList k
   pub no-maps : (k ≡ MAPS → ⊥) → mapsIn (t .rows) ≡ []
+  pub no-templates : (k ≡ TTBL → ⊥) → templatesIn (t .rows) ≡ []
 
 -- a kind whose tables have definitions
 kind-definitions : (k : ℕ) → 1 ≤ k → k ≤ 8 → (k ≡ EVNT → ⊥) → (k ≡ MAPS → ⊥) → (k ≡ TTBL → ⊥) → kindList k ≡ DEFINITIONS
@@ -78,7 +78,7 @@ module _ (s : List ℕ) where
   unfolding eventsAt
   events-told at h =
       finds-bind _ anything (λ e _. finds-next 4 (at + 12) (λ x _. finds-bind _ (counted _ _ (h .count) _) (λ es n.
-      finds-got (record { kind = refl; offset = refl; size = refl; count = n; list = λ _ _. refl; no-maps = λ _. refl }))))
+      finds-got (record { kind = refl; offset = refl; size = refl; count = n; list = λ _ _. refl; no-maps = λ _. refl; no-templates = λ _. refl }))))
 
   maps-told : (at : ℕ) (h : Header) → Finds (mapsAt at h) s (λ ms. length ms ≡ h .count)
   unfolding mapsAt
@@ -99,11 +99,11 @@ module _ (s : List ℕ) where
   table-told k at h =
       finds-choose (eqb k EVNT) (λ e. rw (eqb-true k EVNT e) (events-told at h)) (λ e.
       finds-choose (eqb k MAPS) (λ m. finds-bind _ (maps-told at h) (λ ms n.
-      finds-got (record { kind = refl; offset = refl; size = refl; count = n; list = λ _ _. rw (eqb-true k MAPS m); no-maps = λ f. absurd (f (eqb-true k MAPS m)) }))) (λ m.
+      finds-got (record { kind = refl; offset = refl; size = refl; count = n; list = λ _ _. rw (eqb-true k MAPS m); no-maps = λ f. absurd (f (eqb-true k MAPS m)); no-templates = λ f. refl }))) (λ m.
       finds-choose (eqb k TTBL) (λ t. finds-bind _ (templates-told at h) (λ ts n.
-      finds-got (record { kind = refl; offset = refl; size = refl; count = n; list = λ _ _. rw (eqb-true k TTBL t); no-maps = λ f. refl }))) (λ t.
+      finds-got (record { kind = refl; offset = refl; size = refl; count = n; list = λ _ _. rw (eqb-true k TTBL t); no-maps = λ f. refl; no-templates = λ f. absurd (f (eqb-true k TTBL t)) }))) (λ t.
       finds-bind _ (definitions-told k at h) (λ ds n.
-      finds-got (record { kind = refl; offset = refl; size = refl; count = n; list = λ x y. sym (kind-definitions k x y (eqb-false k EVNT e) (eqb-false k MAPS m) (eqb-false k TTBL t)); no-maps = λ f. refl })))))
+      finds-got (record { kind = refl; offset = refl; size = refl; count = n; list = λ x y. sym (kind-definitions k x y (eqb-false k EVNT e) (eqb-false k MAPS m) (eqb-false k TTBL t)); no-maps = λ f. refl; no-templates = λ f. refl })))))
 
   pub told : (k at : ℕ) (h : Header) (t : Table) → run (tableAt k at h) s ≡ done t → Told k at h t
   told k at h t e = table-told k at h .found t e

@@ -14,6 +14,7 @@ pub mod Block
 pub mod Grows
 pub mod Stored
 pub mod Listed
+pub mod Counting
 pub mod Needed
 pub mod Fits
 pub mod Enough

@@ -6,11 +6,12 @@ use mathlib.Core.Path.{_≡_, refl, ap, sym, _∙_}
 use mathlib.Core.Bool.{Bool, true, false}
 use mathlib.Core.List.{List, [], _∷_}
 use lib.Dec.{leb, eqb}
+use lib.ListN.{length}
 use borrow.Author.Tests.{le-leb, lt-leb, leb-true}
 use Rattle.blob.specs.declared.Verdict.the-variants as verdicts
 use Rattle.blob.specs.Le.{le}
 use Rattle.blob.specs.Reading.{Outcome, done, refused, choose, run, then, many, verdict}
-use Rattle.blob.specs.Laws.{same, fine-value, run-bind, run-number, run-got, run-holds, run-fails}
+use Rattle.blob.specs.Laws.{same, fine-value, run-bind, run-number, run-got, run-holds, run-fails, many-count}
 use Rattle.blob.specs.Finds.{Finds, finds-got, finds-demand, finds-bind, finds-next}
 use Rattle.format.specs.Field.{template-item-descriptors, template-item-name}
 use Rattle.format.specs.Refuse.{truncated}
@@ -103,3 +104,7 @@ module _ (temp e n offset : ℕ) (s : List ℕ) where
     where
       within : Finds (itemsFrom temp e n offset) s (λ is. itemsStart e offset + 20 * n ≤ e)
       within = finds-demand _ _ (λ t. record { found = λ is k. leb-true _ _ t })
+
+  -- so many as were asked for
+  pub items-count : (is : List Item) → run (itemsFrom temp e n offset) s ≡ done is → length is ≡ n
+  items-count is h = many-count (itemAt temp e) (step 20) n (itemsStart e offset) s is (sym (items-row (items-fit (ap verdict h))) ∙ h)

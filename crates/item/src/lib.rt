@@ -96,16 +96,25 @@ fn put(b: &[u8], temp: u32, end: usize, at: usize, number: u32, area: &mut [u32]
     words::put(area, to, &entry);
 }
 
-// Stores the words of the items that `check` found fine; they are those of the template with a number.
-pub fn fill(b: &[u8], temp: u32, end: usize, n: u32, offset: u32, number: u32, area: &mut [u32])
+// Stores the words of the items that `check` found fine from a place of the area on; they are those of the template with a number.
+pub fn fill(
+    b: &[u8],
+    temp: u32,
+    end: usize,
+    n: u32,
+    offset: u32,
+    number: u32,
+    area: &mut [u32],
+    start: usize,
+)
     requires { ⌜ (end ≤ length (now b)) × (length (now b) ≤ 16777216) ⌝ }
     requires { ⌜ verdict (run (itemsFrom temp end n offset) (now b)) ≡ Verdict.Fine ⌝ }
-    requires { ⌜ width ITEMS * n ≤ length (now area) ⌝ }
-    ensures { λ _. ⌜ now (area .exit) ≡ laid (now (area .entry)) 0 (flat (itemWords number) (values (run (itemsFrom temp end n offset) (now (b .entry))))) ⌝ }
+    requires { ⌜ start + width ITEMS * n ≤ length (now area) ⌝ }
+    ensures { λ _. ⌜ now (area .exit) ≡ laid (now (area .entry)) start (flat (itemWords number) (values (run (itemsFrom temp end n offset) (now (b .entry))))) ⌝ }
 {
     let mut at = items_start(end, offset);
     let mut left = n;
-    let mut to = 0;
+    let mut to = start;
     while 0 < left {
         put(b, temp, end, at, number, area, to);
         at += 20;

@@ -1,24 +1,23 @@
 -- One map more: what it makes of the maps that are left, of the count of entries, and of the words of lists 7 and 8.
 use Prim.Native.Nat.{ℕ, _+_, _-_, _*_, _≤_, _<_}
 use mathlib.Core.Path.{_≡_, refl, ap, sym, _∙_}
-use mathlib.Core.List.{List, [], _∷_, _++_}
-use native.Mathlib.Omega.{arith}
+use mathlib.Core.List.{List, _∷_, _++_}
 use lib.ListN.{length}
 use Rattle.blob.specs.declared.Refusal.{Refusal}
 use Rattle.blob.specs.declared.Verdict.the-variants as verdicts
 use Rattle.blob.specs.Laid.{laid, flat}
-use Rattle.blob.specs.Reading.{Outcome, done, refused, run, many, verdict, values}
-use Rattle.blob.specs.Laws.{not-fine, many-more, many-stop, many-length, values-more, values-none, fill-more, told-more, length-flat}
+use Rattle.blob.specs.Reading.{Outcome, done, run, many, verdict, values}
+use Rattle.blob.specs.Laws.{not-fine, many-more, many-stop, many-length, values-more, values-none, fill-more, length-flat}
 use Rattle.format.specs.Area.{MAPS, ENTRIES, width}
 use Rattle.format.specs.Definition.{step}
 use Rattle.format.specs.Map.{Mapped, entryAt, mapRead}
 use Rattle.format.specs.Answer.{capped}
-use Rattle.format.specs.steps.Needs.{total, entryCount, mapsRead}
+use Rattle.format.specs.steps.Needs.{total, entryCount}
+use Rattle.format.specs.theorems.Counting as counting
 use Rattle.format.specs.Lists.{mapWords, mapEntryWords, mapList}
 use Rattle.format.specs.declared.Map.{Map}
 use Rattle.format.specs.declared.MapRead.the-variants as read
 use Rattle.format.specs.declared.EntriesRead.{EntriesRead}
-use Rattle.format.specs.declared.EntriesRead.the-variants as maps
 use Rattle.map.specs.Decides.{entries, entries-fine, Told, is-map, is-refused}
 use Rattle.map.specs.Listed.{listedAt, listed-told}
 
@@ -35,16 +34,7 @@ entriesWords ms = flat (λ m. flat mapEntryWords (m .entries)) ms
 
 -- what the code answers once so many entries were counted
 abbrev pub countedFrom : ℕ → Outcome (List Mapped) → EntriesRead
-countedFrom n (done ms) = maps.Entries (capped (n + entryCount ms))
-countedFrom n (refused r) = maps.Refused r
-
-pub counted-all : (o : Outcome (List Mapped)) → mapsRead o ≡ countedFrom 0 o
-counted-all (done ms) = ap maps.Entries (omega arith)
-counted-all (refused r) = refl
-
-pub counted-none : (n : ℕ) → n ≤ 65537 → countedFrom n (done []) ≡ maps.Entries n
-unfolding total
-counted-none n h = ap maps.Entries (omega arith)
+countedFrom n o = counting.countedFrom (λ m. length (m .entries)) n o
 
 -- the words of a map come before those of others
 one-map : (n : ℕ) (x : Map) (m : Mapped) → x ≡ m .map → length (m .entries) ≡ m .map .count → (ms : List Mapped)
@@ -91,9 +81,8 @@ module _ (e start first : ℕ) (s : List ℕ) (left place : ℕ) (h : 0 < left) 
 
     pub next-counted : (n r : ℕ) → r ≡ capped (n + x .count)
         → countedFrom n (unread e start first s left place) ≡ countedFrom r (unread e start first s (left - 1) (place + 4))
-    unfolding total
     next-counted n r q =
-        told-more (listedAt e start first) (step 4) (countedFrom n) (countedFrom r) left place s m (λ ms. ap maps.Entries (omega (arith, its-count))) (λ r. refl) h found
+        counting.counted-more (λ m. length (m .entries)) (listedAt e start first) (step 4) left place s m h found n r (q ∙ ap (λ k. capped (n + k)) (sym its-count))
 
     module _ (v : verdict (unread e start first s left place) ≡ verdicts.Fine) where
       pub next-fine : verdict (unread e start first s (left - 1) (place + 4)) ≡ verdicts.Fine

@@ -240,7 +240,7 @@ fn fill_items_until(b: &[u8], end: usize, start: usize, n: u32, first: u32, area
     while 0 < left {
         let behind = at + blob::word(b, at + 4) as usize;
         let items = blob::word(b, at + 8);
-        item::fill(b, at as u32, behind, items, blob::word(b, at + 16), number, &mut area[to..]);
+        item::fill(b, at as u32, behind, items, blob::word(b, at + 16), number, area, to);
         at = behind;
         left -= 1;
         number += 1;

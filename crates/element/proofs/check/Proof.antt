@@ -8,6 +8,7 @@ use lib.ListN.{length}
 use Rattle.blob.specs.declared.Verdict.the-variants as verdicts
 use Rattle.blob.specs.Reading.{run, verdict, values}
 use Rattle.format.specs.Area.{none}
+use Rattle.format.specs.Table.{MAPS, TTBL}
 use Rattle.format.specs.Provider.{elementsFrom}
 use Rattle.format.specs.Lists.{kept}
 use Rattle.format.specs.Answer.{capped}
@@ -23,7 +24,7 @@ use Rattle.element.proofs.check.Statement.{statement}
 use Rattle.element.proofs.check.Tie as tie
 
 abbrev Inv-loop : tie.InvT-loop
-Inv-loop b start n e places kind₀ left₀ tables₀ counts₀ kind left tables counts =
+Inv-loop b start n e places entries kind₀ left₀ tables₀ counts₀ kind left tables counts =
     (1 ≤ kind)
     × (kind + left ≡ 9)
     × (tables + left ≤ 8)
@@ -34,7 +35,7 @@ Inv-loop b start n e places kind₀ left₀ tables₀ counts₀ kind left tables
     × (tables + length (keptFrom (values (run (elementsFrom n start) b)) left kind) ≡ length (kept (values (run (elementsFrom n start) b))))
 
 abbrev μ-loop : tie.MeasureT-loop
-μ-loop b start n e places kind₀ left₀ tables₀ counts₀ kind left tables counts = left
+μ-loop b start n e places entries kind₀ left₀ tables₀ counts₀ kind left tables counts = left
 
 returns : tie.Need-returns Inv-loop μ-loop
 returns c =
@@ -44,10 +45,10 @@ returns c =
 
 loop-holds : tie.Need-loop-holds Inv-loop μ-loop
 loop-holds c =
-    let m = c .before .before .before in
+    let m = c .before .before .before .before in
     let a = m .before .before .args in
     let o = run (elementsFrom (a .n) (a .start)) (a .b .now) in
-    let e = is-elements o (m .check-elements .result) (m .check-elements .ensures) (c .before .enum-told .given .1) in
+    let e = is-elements o (m .check-elements .result) (m .check-elements .ensures) (c .before .before .enum-told .given .1) in
     (omega arith, omega arith, omega arith, search needs, e .0, e .1, ap (grownAll none) (sym (kept-all (values o))), ap (λ ts. 0 + length ts) (sym (kept-all (values o))) ∙ zero-add (length (kept (values o))))
 
 loop-again : tie.Need-loop-again Inv-loop μ-loop
@@ -55,7 +56,7 @@ loop-again c =
     let m = c .before in
     let l = m .before .loop in
     let inv = l .inv in
-    let o = m .before .before .before .before .before .before .before in
+    let o = m .before .before .before .before .before .before .before .before in
     let es = values (run (elementsFrom (o .args .n) (o .args .start)) (o .args .b .now)) in
     let more = m .loop-test .taken in
     let place = inv .5 _ (inv .0) (omega arith) in (
@@ -83,14 +84,14 @@ unfolding grownAll
 returns-2 c =
     let l = c .before .before .loop in
     let inv = l .inv in
-    let m = c .before .before .before .before .before .before in
+    let m = c .before .before .before .before .before .before .before in
     let a = m .before .before .args in
     let o = run (elementsFrom (a .n) (a .start)) (a .b .now) in
-    let e = is-elements o (m .check-elements .result) (m .check-elements .ensures) (c .before .before .before .before .enum-told .given .1) in
+    let e = is-elements o (m .check-elements .result) (m .check-elements .ensures) (c .before .before .before .before .before .enum-told .given .1) in
     let n = kept-none (values o) (l .left) (l .kind) (c .before .loop-test .left) in
     ap (λ ns. record { verdict = verdicts.Fine; counts = ns })
-    (counts-told (a .b .now) (a .n) (a .start) (inv .4) (l .counts) (sym (ap (grownAll (l .counts)) n) ∙ inv .6) (l .tables) _ _ (omega arith)
-    (omega (arith, inv .7, ap (λ ts. length ts) n)) (e .2) (c .sum .ensures ∙ ap (λ u. capped (0 + u)) (e .3)))
+    (counts-told (a .b .now) (a .n) (a .start) (inv .4) (l .counts) (sym (ap (grownAll (l .counts)) n) ∙ inv .6) (l .tables) _ _ _ (omega arith)
+    (omega (arith, inv .7, ap (λ ts. length ts) n)) (e .2 MAPS (omega arith) (omega arith)) (e .2 TTBL (omega arith) (omega arith)) (c .sum .ensures ∙ ap (λ u. capped (0 + u)) (e .3)))
     ∙ sym (ap neededFor (fine-done o (inv .4)))
 
 pub check-spec : {M : Type 1} → statement M
@@ -121,6 +122,13 @@ check-spec =
     (λ c. search needs)
     (λ c. search needs)
     loop-again
+    (λ c. search needs)
+    (λ c. search needs)
+    (λ c. search needs)
+    (λ c. search needs)
+    (λ c. search needs)
+    (λ c. search needs)
+    (λ c. search needs)
     (λ c. search needs)
     (λ c. search needs)
     (λ c κs. search needs)

@@ -1,11 +1,10 @@
 -- The invariant: what is left decides. The answer for the elements that are left, with the counts so far, is that for all, and their
 -- descriptors are fine.
 use Prim.Native.Nat.{_+_, _*_, _≤_}
-use mathlib.Core.Path.{_≡_, sym, _∙_}
+use mathlib.Core.Path.{_≡_, refl, sym, _∙_}
 use mathlib.Core.Logic.{⊎-elim}
 use native.Mathlib.Omega.{arith}
 use borrow.Author.Needs.{needs}
-use borrow.Author.Tests.{eq-eqb, ne-eqb}
 use lib.ListN.{length}
 use Rattle.blob.specs.declared.Verdict.the-variants as verdicts
 use Rattle.blob.specs.Reading.{run, many, verdict}
@@ -13,7 +12,7 @@ use Rattle.blob.specs.Laws.{many-more, refused-value}
 use Rattle.format.specs.Definition.{step}
 use Rattle.format.specs.Provider.{descriptorAt, elementsFrom}
 use Rattle.element.specs.Elements.{signature-fits, next-described}
-use Rattle.element.specs.Counted.{elementsRead, readFrom, read-all, read-none, is-refused, as-unknown, read-stop, read-unknown, read-table}
+use Rattle.element.specs.Counted.{elementsRead, readFrom, read-none, is-refused, as-unknown, read-stop, read-unknown, read-table}
 use Rattle.element.proofs.check_elements.Statement.{statement}
 use Rattle.element.proofs.check_elements.Tie as tie
 
@@ -66,8 +65,7 @@ loop-again c =
       inv .3
           ∙ ⊎-elim
           (λ w. rw (w .5, w .6, w .7) (read-unknown _ _ _ more _ found _ q _ _ _ (w .0 .taken) (sym (w .2 .ensures) ∙ w .4 .given .1)))
-          (λ w. rw (w .7, w .8, w .9) (read-table _ _ _ more _ found _ q _ _ _ (omega arith) _ _ (sym (w .4 .given .1) ∙ w .2 .ensures)
-          (⊎-elim (λ x. x .1 ∙ rw (eq-eqb _ _ (x .0 .taken))) (λ x. x .1 ∙ rw (ne-eqb _ _ (x .0 .left))) (w .6 .came))))
+          (λ w. rw (w .6, w .7, w .8) (read-table _ _ _ more _ found _ q _ _ _ (omega arith) _ (sym (w .4 .given .1) ∙ w .2 .ensures)))
           (c .if1 .came),
     )
 
@@ -77,7 +75,7 @@ check-elements-spec =
     (tie.spec
     Inv-loop
     μ-loop
-    (λ c. (search needs, search needs, search needs, read-all (run (elementsFrom _ _) _)))
+    (λ c. (search needs, search needs, search needs, refl))
     (λ c κs. (omega arith, next-described _ _ _ (c .loop-test .taken) (c .before .loop .inv .2)))
     (λ c κs. search needs)
     (λ c. search needs)
@@ -92,6 +90,9 @@ check-elements-spec =
     (λ c. search needs)
     (λ c κs. search needs)
     returns-2
+    (λ c. search needs)
+    (λ c. search needs)
+    (λ c. search needs)
     (λ c. search needs)
     (λ c. search needs)
     (λ c. search needs)

@@ -17,7 +17,7 @@ returns-4 : tie.Need-returns-4
 returns-4 c =
     let e = c .before in
     let r = e .before .match .rest in
-    c .no-entries2 .ensures ∙ ap without-entries (e .check-definitions .ensures) ∙ checks-definitions _ _ _ _ (r .0 .0 .1) (r .0 .1) (r .1)
+    c .no-entries .ensures ∙ ap without-entries (e .check-definitions .ensures) ∙ checks-definitions _ _ _ _ (r .0 .0 .1) (r .0 .1) (r .1)
 
 pub check-table-spec : {M : Type 1} → statement M
 check-table-spec =
@@ -26,10 +26,9 @@ check-table-spec =
     (λ c κs. omega (arith, ap header-length (c .match .keys1)))
     (λ c κs. omega (arith, ap header-length (c .match .keys2)))
     (λ c κs. omega (arith, ap header-length (c .match .keys3)))
-    (λ c κs. search needs)
     check-definitions-requires
     (λ c κs. search needs)
     (λ c. c .check-events .ensures ∙ checks-events _ _ _ _ (c .before .match .keys1))
     (λ c. c .check .ensures ∙ checks-maps _ _ _ _ (c .before .match .keys2))
-    (λ c. c .no-entries .ensures ∙ ap without-entries (c .before .check2 .ensures) ∙ checks-templates _ _ _ _ (c .before .before .match .keys3))
+    (λ c. c .check2 .ensures ∙ checks-templates _ _ _ _ (c .before .match .keys3))
     returns-4)

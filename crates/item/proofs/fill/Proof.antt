@@ -17,15 +17,15 @@ use Rattle.item.proofs.fill.Statement.{statement}
 use Rattle.item.proofs.fill.Tie as tie
 
 abbrev Inv-loop : tie.InvT-loop
-Inv-loop b temp end n offset number area₀ at₀ left₀ to₀ area at left to =
+Inv-loop b temp end n offset number area₀ start at₀ left₀ to₀ area at left to =
     (at + 20 * left ≤ end)
     × (to + width ITEMS * left ≤ length area)
     × (length area ≡ length area₀)
     × (verdict (run (many (itemAt temp end) (step 20) left at) b) ≡ verdicts.Fine)
-    × (laid area₀ 0 (flat (itemWords number) (values (run (itemsFrom temp end n offset) b))) ≡ rest (itemAt temp end) (step 20) (itemWords number) b area left at to)
+    × (laid area₀ start (flat (itemWords number) (values (run (itemsFrom temp end n offset) b))) ≡ rest (itemAt temp end) (step 20) (itemWords number) b area left at to)
 
 abbrev μ-loop : tie.MeasureT-loop
-μ-loop b temp end n offset number area₀ at₀ left₀ to₀ area at left to = left
+μ-loop b temp end n offset number area₀ start at₀ left₀ to₀ area at left to = left
 
 loop-holds : tie.Need-loop-holds Inv-loop μ-loop
 loop-holds c =
@@ -33,7 +33,7 @@ loop-holds c =
     let f = items-fit _ _ _ _ _ (o .pre .1 .0) in
     let e = c .items-start .ensures in
     let r = items-row (o .args .temp) (o .args .end) (o .args .n) (o .args .offset) (o .args .b .now) f in
-    (omega (arith, e, f), search needs, refl, rw e (sym (ap verdict r) ∙ o .pre .1 .0), rw e (ap (λ x. laid (o .args .area .now) 0 (flat (itemWords (o .args .number)) (values x))) r))
+    (omega (arith, e, f), search needs, refl, rw e (sym (ap verdict r) ∙ o .pre .1 .0), rw e (ap (λ x. laid (o .args .area .now) (o .args .start) (flat (itemWords (o .args .number)) (values x))) r))
 
 put-requires : tie.Need-put-requires Inv-loop μ-loop
 put-requires c κs =

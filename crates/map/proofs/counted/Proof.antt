@@ -8,9 +8,10 @@ use Rattle.blob.specs.Reading.{run}
 use Rattle.blob.specs.Laws.{many-refused, many-empty}
 use Rattle.format.specs.Definition.{step}
 use Rattle.format.specs.steps.Needs.{mapsRead}
+use Rattle.format.specs.theorems.Counting.{counted-all, counted-none}
 use Rattle.map.specs.Decides.{is-refused}
 use Rattle.map.specs.Listed.{listedAt, listed}
-use Rattle.map.specs.Next.{unread, countedFrom, counted-all, counted-none, next-counted}
+use Rattle.map.specs.Next.{unread, countedFrom, next-counted}
 use Rattle.map.proofs.counted.Statement.{statement}
 use Rattle.map.proofs.counted.Tie as tie
 
@@ -24,7 +25,7 @@ abbrev μ-loop : tie.MeasureT-loop
 μ-loop b end start n first place₀ left₀ entries₀ place left entries = left
 
 loop-holds : tie.Need-loop-holds Inv-loop μ-loop
-loop-holds c = (search needs, search needs, counted-all (unread _ _ _ _ _ _))
+loop-holds c = (search needs, search needs, counted-all _ (unread _ _ _ _ _ _))
 
 returns : tie.Need-returns Inv-loop μ-loop
 returns c =
@@ -47,7 +48,7 @@ returns-2 : tie.Need-returns-2 Inv-loop μ-loop
 returns-2 c =
     sym (c .before .loop .inv .2
     ∙ ap (countedFrom _) (many-empty (listedAt _ _ _) (step 4) _ _ _ (c .loop-test .left))
-    ∙ counted-none _ (c .before .loop .inv .1))
+    ∙ counted-none _ _ (c .before .loop .inv .1))
 
 pub counted-spec : {M : Type 1} → statement M
 counted-spec =

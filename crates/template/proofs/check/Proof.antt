@@ -2,7 +2,7 @@
 use mathlib.Core.Path.{ap, sym, _∙_}
 use native.Mathlib.Omega.{arith}
 use borrow.Author.Needs.{needs}
-use Rattle.blob.specs.Reading.{verdict}
+use Rattle.format.specs.steps.Needs.{templatesRead}
 use Rattle.format.specs.theorems.Ends.{region-bounds}
 use Rattle.template.specs.Templates.{templates-told, templates-refused}
 use Rattle.template.proofs.check.Statement.{statement}
@@ -17,12 +17,12 @@ check-until-requires c κs =
 returns : tie.Need-returns
 returns c =
     let r = c .before .before .before in
-    sym (ap verdict (templates-refused _ _ _ _ (sym (c .before .region .given .1) ∙ r .region-end .ensures)))
+    sym (ap templatesRead (templates-refused _ _ _ _ (sym (c .before .region .given .1) ∙ r .region-end .ensures)))
 
 returns-2 : tie.Need-returns-2
 returns-2 c =
     let r = c .before .before .before .before in
-    c .check-until .ensures ∙ sym (ap verdict (templates-told _ _ _ _ (sym (c .before .before .region2 .given .1) ∙ r .region-end .ensures)))
+    c .check-until .ensures ∙ sym (ap templatesRead (templates-told _ _ _ _ (sym (c .before .before .region2 .given .1) ∙ r .region-end .ensures)))
 
 pub check-spec : {M : Type 1} → statement M
 check-spec =

@@ -9,7 +9,7 @@ use Rattle.blob.specs.declared.Verdict.the-variants as verdicts
 use Rattle.blob.specs.Reading.{then}
 use Rattle.blob.specs.Laws.{run-bind, run-number, run-demand}
 use Rattle.words.specs.Guid.{guid-found}
-use Rattle.template.specs.Temp.{fields-items}
+use Rattle.template.specs.Temp.{items-inside, fields-refused, fields-items}
 use Rattle.template.proofs.check_fields.Statement.{statement}
 use Rattle.template.proofs.check_fields.Tie as tie
 
@@ -34,12 +34,31 @@ counted c = ⊎-elim (λ w. rw (eq-eqb _ _ (w .0 .taken), not-false (eqb (c .bef
 
 returns-2 : tie.Need-returns-2
 returns-2 c =
-    let i = c .before in
-    let j = i .before .before in
-    c .items-at .ensures ∙ sym (fields-items _ _ _ _ _ _ _ (j .before .before .word .ensures) (j .before .word2 .ensures) (i .before .word3 .ensures) (i .items-of .ensures) (counted j))
+    let i = c .before .before .before in
+    let k = i .before in
+    let j = k .before .before in
+    fields-refused _ _ _ _ _ _ _ (j .before .before .word .ensures) (j .before .word2 .ensures) (k .before .word3 .ensures) (k .items-of .ensures) (counted j) _
+    (sym (c .before .found .given .1) ∙ i .items-at .ensures)
+
+check-requires : tie.Need-check-requires
+check-requires c κs =
+    let i = c .before .before in
+    let k = i .before in
+    let j = k .before .before in
+    let x = items-inside _ _ _ _ _ _ _ (j .before .before .word .ensures) (j .before .word2 .ensures) (k .before .word3 .ensures) (k .items-of .ensures) (sym (i .items-at .ensures) ∙ c .enum-told .given .1) in
+    search needs
+
+returns-3 : tie.Need-returns-3
+returns-3 c =
+    let i = c .before .before .before in
+    let k = i .before in
+    let j = k .before .before in
+    c .check .ensures
+    ∙ sym (fields-items _ _ _ _ _ _ _ (j .before .before .word .ensures) (j .before .word2 .ensures) (k .before .word3 .ensures) (k .items-of .ensures) (counted j) (sym (i .items-at .ensures) ∙ c .before .enum-told .given .1))
 
 pub check-fields-spec : {M : Type 1} → statement M
 check-fields-spec =
     tie.close (
     tie.spec (λ c. search needs) (λ c κs. search needs) (λ c. search needs) (λ c κs. search needs) (λ c. search needs) (λ c κs. search needs)
-    returns (λ c. search needs) (λ c κs. search needs) (λ c. search needs) (λ c κs. search needs) (λ c κs. search needs) returns-2)
+    returns (λ c. search needs) (λ c κs. search needs) (λ c. search needs) (λ c κs. search needs) (λ c κs. search needs) (λ c. search needs) returns-2
+    (λ c. search needs) (λ c. search needs) check-requires returns-3)

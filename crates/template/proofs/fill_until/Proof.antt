@@ -27,30 +27,30 @@ abbrev μ-loop : tie.MeasureT-loop
 μ-loop b end start n area₀ at₀ left₀ same₀ to₀ area at left same to = turns b at left same
 
 word-requires : tie.Need-word-requires Inv-loop μ-loop
-word-requires c κs = let f = first-fine _ _ _ _ _ refl (c .loop-test .taken) (c .before .loop .inv .3) in omega arith
+word-requires c κs = let f = first-fine _ _ _ _ _ refl (c .loop-test .taken) (c .before .loop .inv .3) .stands in omega arith
 
-template-of-requires : tie.Need-template-of-requires Inv-loop μ-loop
-template-of-requires c κs =
+put-requires : tie.Need-put-requires Inv-loop μ-loop
+put-requires c κs =
     let w = c .before .before in
     let m = w .before in
-    let f = first-fine _ _ _ _ _ (sym (c .before .if1 .taken) ∙ w .word .ensures) (m .loop-test .taken) (m .before .loop .inv .3) in
-    omega arith
+    let f = first-fine _ _ _ _ _ (sym (c .before .if1 .taken) ∙ w .word .ensures) (m .loop-test .taken) (m .before .loop .inv .3) .stands in
+    search needs
 
 loop-less : tie.Need-loop-less Inv-loop μ-loop
-loop-less c = turns-next _ _ _ _ _ _ (c .before .before .before .before .before .before .before .loop-test .taken)
+loop-less c = turns-next _ _ _ _ _ _ (c .before .before .before .before .before .before .loop-test .taken)
 
 loop-again : tie.Need-loop-again Inv-loop μ-loop
 loop-again c =
     let p = c .before .before in
-    let e = p .before .before .before in
+    let e = p .before .before in
     let m = e .before .before in
     let inv = m .before .loop .inv in
     let f = first-fine _ _ _ _ _ (sym (e .if1 .taken) ∙ e .before .word .ensures) (m .loop-test .taken) (inv .3) in (
-      f .0 .ends,
-      omega (arith, p .put .kept .0),
-      p .put .kept .0 ∙ inv .2,
-      sym (many-more _ next _ _ _ _ (m .loop-test .taken) (f .1)) ∙ inv .3,
-      inv .4 ∙ rest-more _ next templateWords _ _ _ _ _ _ _ (rw (p .before .template-of .ensures) at (p .put .ensures)) (m .loop-test .taken) (f .1) (inv .3),
+      f .stands .ends,
+      omega (arith, p .put .kept .1 .1 .1 .0),
+      p .put .kept .1 .1 .1 .0 ∙ inv .2,
+      sym (many-more _ next _ _ _ _ (m .loop-test .taken) (f .found)) ∙ inv .3,
+      inv .4 ∙ rest-more _ next templateWords _ _ _ _ _ _ _ (p .put .ensures (f .items)) (m .loop-test .taken) (f .found) (inv .3),
     )
 
 loop-less-2 : tie.Need-loop-less-2 Inv-loop μ-loop
@@ -62,6 +62,6 @@ returns c = sym (c .before .loop .inv .4 ∙ rest-none _ next templateWords _ _ 
 pub fill-until-spec : {M : Type 1} → statement M
 fill-until-spec =
     tie.close (
-    tie.spec Inv-loop μ-loop (λ c. (search needs, search needs, refl, search needs, refl)) (λ c. search needs) word-requires template-of-requires
-    (λ c κs. search needs) (λ c. search needs) (λ c. search needs) (λ c. search needs) (λ c. search needs) loop-less loop-again loop-less-2 (λ c. search needs)
+    tie.spec Inv-loop μ-loop (λ c. (search needs, search needs, refl, search needs, refl)) (λ c. search needs) word-requires put-requires
+    (λ c. search needs) (λ c. search needs) (λ c. search needs) (λ c. search needs) loop-less loop-again loop-less-2 (λ c. search needs)
     (λ c. search needs) returns)
