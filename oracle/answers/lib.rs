@@ -8,6 +8,8 @@ pub mod differences;
 pub mod fields;
 pub mod joins;
 pub mod lists;
+pub mod tally;
+mod temp;
 
 use lists::{LISTS, ROWS, row_of};
 

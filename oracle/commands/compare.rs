@@ -18,8 +18,9 @@ use std::process::ExitCode;
 use std::sync::atomic::{AtomicBool, AtomicU64, Ordering::Relaxed};
 use std::thread;
 
-use answers::differences::{self, Tally};
+use answers::differences;
 use answers::lists::{EVENTS, ITEMS, LISTS, MAP_ENTRIES, ROWS, UNKNOWN2, row_of};
+use answers::tally::Tally;
 use answers::{Answer, answer};
 use ducatfeather::raw;
 use generator::known::{self, Shared};

@@ -5,7 +5,8 @@
 use std::collections::BTreeMap;
 use std::process::ExitCode;
 
-use answers::differences::{self, Tally};
+use answers::differences;
+use answers::tally::Tally;
 use answers::{fields, fields::Pair};
 use generator::Rng;
 

@@ -75,7 +75,7 @@ fn main() -> ExitCode {
 fn cases(seed: u64) -> Option<Vec<Case>> {
     let named = known::cases().into_iter();
     let mut cases: Vec<Case> = named
-        .map(|(name, blob)| original(name.into(), blob))
+        .map(|(name, blob)| answered(name.into(), blob))
         .collect();
     let (shortest, special) = generated(seed);
     for pair in fields::promised() {
@@ -87,14 +87,14 @@ fn cases(seed: u64) -> Option<Vec<Case>> {
             eprintln!("no blob of at most {BLOB} bytes has the pair {pair:?}");
             return None;
         };
-        cases.push(original(name(pair), blob.clone()));
+        cases.push(answered(name(pair), blob.clone()));
     }
     for (Special { name, .. }, blob) in SPECIAL.iter().zip(special) {
         let Some(blob) = blob else {
             eprintln!("no accepted blob of at most {BLOB} bytes has {name}");
             return None;
         };
-        cases.push(original((*name).into(), blob));
+        cases.push(answered((*name).into(), blob));
     }
     cases.extend(own());
     Some(cases)
@@ -145,8 +145,8 @@ fn items_replaced(blob: &[u8], answer: &Answer) -> bool {
         && named.any(|named| replaced(named[0]) && has_items(named[0]))
 }
 
-/// A blob that the original answers.
-fn original(name: String, blob: Vec<u8>) -> Case {
+/// A blob with the answer to it.
+fn answered(name: String, blob: Vec<u8>) -> Case {
     Case {
         expected: answer(&blob),
         name,
