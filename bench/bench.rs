@@ -54,6 +54,7 @@ fn ordinary(words: &str) -> Vec<&'static str> {
             assert!(measure::original(&blob), "the original refuses {name}");
             assert_eq!(lent.library(&blob), 0, "the library refuses {name}");
             assert_eq!(measure::needs(&blob), 0, "the needs of {name} are refused");
+            assert!(measure::same_items(&blob), "other items in {name}");
             let [original, library, needs] = measure::medians(&blob, &mut lent);
             let (length, ratio) = (blob.len() as f64, original / library);
             println!(

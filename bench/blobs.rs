@@ -14,6 +14,9 @@ pub fn whole() -> Vec<Named> {
         ("mixed, 100 KiB", mixed(2, 260)),
         ("mixed, 1 MiB", mixed(8, 650)),
         ("mixed, 12 MiB", mixed(45, 1400)),
+        ("items, 100 KiB", with_items(2, 40)),
+        ("items, 1 MiB", with_items(8, 100)),
+        ("items, 8 MiB", with_items(40, 160)),
         ("names of a kilobyte", long_names(4000, 'n' as u16)),
         ("names of a kilobyte, Greek", long_names(4000, 0x3bd)),
         ("small providers", small_providers(30_000)),
@@ -26,6 +29,11 @@ pub fn parts() -> Vec<Named> {
     vec![
         ("events", one(|w| w.events(65_536))),
         ("templates", one(|w| w.templates(65_536, 100))),
+        ("items", one(|w| w.templates_with(6_500, 0, ten_items))),
+        (
+            "items without names",
+            one(|w| w.templates_with(6_500, 0, ten_nameless)),
+        ),
         ("maps", one(|w| w.maps(8_000, 8, 0))),
         ("names of 16 units", short_names(60_000)),
         ("definitions without names", one(|w| w.levels(nameless()))),
@@ -92,6 +100,39 @@ fn mixed(providers: u32, events: u32) -> Vec<u8> {
         w.provider(provider, wevt);
     }
     w.close()
+}
+
+/// Providers with so many events and templates each, as they are where events carry much: ten items
+/// a template, and as much BinXML as it takes to name ten values.
+fn with_items(providers: u32, templates: u32) -> Vec<u8> {
+    let mut w = Writer::new(providers);
+    for provider in 0..providers {
+        let elements = [
+            w.events(templates),
+            w.templates_with(templates, 720, ten_items),
+        ];
+        let wevt = w.wevt(&elements, 0);
+        w.provider(provider, wevt);
+    }
+    w.close()
+}
+
+/// Ten items with names of 5 to 20 letters, no two templates' alike.
+fn ten_items(w: &mut Writer, temp: u32, template: u32) {
+    let items = (0..10).map(|item| {
+        let number = 10 * template + item;
+        let letter = move |i| 'a' as u16 + ((number + i) % 26) as u16;
+        let units = 5 + number.wrapping_mul(0x9e37_79b9) % 16;
+        ([0, 0x0808, 0, 0x0004_0001], (0..units).map(letter))
+    });
+    w.named_items(temp, items);
+}
+
+fn ten_nameless(w: &mut Writer, temp: u32, _: u32) {
+    w.items(temp, 10, 0);
+    for _ in 0..10 {
+        w.words(&[0, 0x0808, 0, 0x0004_0001, 0]);
+    }
 }
 
 /// One provider with one element.

@@ -3,7 +3,7 @@
 use std::hint::black_box;
 use std::time::{Duration, Instant};
 
-use ducatfeather::{Capacities, raw};
+use ducatfeather::{Capacities, List, raw};
 use original::wevt_templates::manifest::CrimManifest;
 
 /// Words that are lent to each reading: as many as there can be.
@@ -32,6 +32,18 @@ impl Lent {
 pub fn original(blob: &[u8]) -> bool {
     let manifest = CrimManifest::parse(black_box(blob));
     black_box(&manifest).is_ok()
+}
+
+/// Whether both accept a block, and find as many items in it: whether they do the same work.
+pub fn same_items(blob: &[u8]) -> bool {
+    let (Ok(manifest), Ok(needs)) = (CrimManifest::parse(blob), ducatfeather::needs(blob)) else {
+        return false;
+    };
+    let providers = manifest.providers.iter();
+    let tables = providers.filter_map(|provider| provider.wevt.elements.templates.as_ref());
+    let templates = tables.flat_map(|table| &table.templates);
+    let items: usize = templates.map(|template| template.items.len()).sum();
+    items == needs.of(List::Items) as usize
 }
 
 /// Asks the library what a block needs; gives the code.

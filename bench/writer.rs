@@ -98,16 +98,55 @@ impl Writer {
 
     /// Templates with so many bytes of BinXML each.
     pub fn templates(&mut self, count: u32, binxml: usize) -> u32 {
+        self.templates_with(count, binxml, |_, _, _| ())
+    }
+
+    /// The same, with items: `items` writes them, given the TEMP's place and its number.
+    pub fn templates_with(
+        &mut self,
+        count: u32,
+        binxml: usize,
+        items: impl Fn(&mut Writer, u32, u32),
+    ) -> u32 {
         let place = self.open(b"TTBL");
         self.words(&[count]);
         for template in 0..count {
             let temp = self.open(b"TEMP");
             self.words(&[0, 0, 0, 1, template, 2, 3, 4]);
             self.bytes.resize(self.bytes.len() + binxml, 0x0f);
+            items(self, temp, template);
             self.end(temp);
         }
         self.end(place);
         place
+    }
+
+    /// Says that the items of the TEMP at a place are written next, so many of them with so many
+    /// names.
+    pub fn items(&mut self, temp: u32, count: u32, names: u32) {
+        for (place, word) in [(8, count), (12, names), (16, self.here())] {
+            self.set(temp + place, word);
+        }
+    }
+
+    /// The items of the TEMP at a place, each with a name: the words of each but for the last,
+    /// which is its name's place, and behind all of them the names.
+    pub fn named_items<N: Iterator<Item = u16>>(
+        &mut self,
+        temp: u32,
+        items: impl Iterator<Item = ([u32; 4], N)>,
+    ) {
+        let (items, names): (Vec<[u32; 4]>, Vec<N>) = items.unzip();
+        let array = self.here();
+        self.items(temp, items.len() as u32, names.len() as u32);
+        for item in items {
+            self.words(&item);
+            self.words(&[0]);
+        }
+        for (number, name) in (0..).zip(names) {
+            let name = self.name(name);
+            self.set(array + 20 * number + 16, name);
+        }
     }
 
     /// VMAPs with so many entries each, all with one name.

@@ -47,7 +47,7 @@ extern "C" {
 #define DUCAT_MOST 65536u
 
 /* How many areas the lent words have, and so how many capacities and how many counts there are. */
-#define DUCAT_AREAS 10
+#define DUCAT_AREAS 11
 
 /* How many numbers an answer has: of ducat_read and ducat_needs, of ducat_template_at, of ducat_templates_for. */
 #define DUCAT_NUMBERS (DUCAT_COUNTS + DUCAT_AREAS)
@@ -105,7 +105,8 @@ enum {
     DUCAT_LIST_MAP_ENTRIES = 8,
     DUCAT_LIST_TEMPLATES = 9,
     DUCAT_LIST_UNKNOWN_ELEMENTS = 10,
-    DUCAT_GUIDS = 11          /* the list lent to ducat_templates_for, which has no area */
+    DUCAT_GUIDS = 11,         /* the list lent to ducat_templates_for, which has no area */
+    DUCAT_LIST_ITEMS = 12
 };
 
 /* The kinds of tables. */
@@ -238,6 +239,18 @@ struct ducat_unknown_element {
     uint32_t size;
 };
 
+struct ducat_item {
+    uint32_t template_number; /* in DUCAT_LIST_TEMPLATES */
+    uint32_t unknown1;
+    uint32_t types;           /* input type + 256 times output type */
+    uint32_t unknown3;
+    uint32_t unknown4;
+    uint32_t count_and_length;/* count + 65,536 times length */
+    uint32_t name_offset;
+    uint32_t name_start;
+    uint32_t name_units;
+};
+
 /* What an event is looked up by: a provider's GUID and the first fields of an event. Copied with memcpy into DUCAT_KEY_WORDS
  * words, it is what ducat_templates_for takes. */
 struct ducat_key {
@@ -264,6 +277,7 @@ enum {
     DUCAT_MAP_ENTRY_WORDS = 2,
     DUCAT_TEMPLATE_WORDS = 12,
     DUCAT_UNKNOWN_ELEMENT_WORDS = 4,
+    DUCAT_ITEM_WORDS = 9,
     DUCAT_GUID_WORDS = 4,
     DUCAT_KEY_WORDS = 12
 };
@@ -278,6 +292,7 @@ DUCAT_STATIC_ASSERT(sizeof(struct ducat_map) == 4 * DUCAT_MAP_WORDS, "words of a
 DUCAT_STATIC_ASSERT(sizeof(struct ducat_map_entry) == 4 * DUCAT_MAP_ENTRY_WORDS, "words of a map entry");
 DUCAT_STATIC_ASSERT(sizeof(struct ducat_template) == 4 * DUCAT_TEMPLATE_WORDS, "words of a template");
 DUCAT_STATIC_ASSERT(sizeof(struct ducat_unknown_element) == 4 * DUCAT_UNKNOWN_ELEMENT_WORDS, "words of an unknown element");
+DUCAT_STATIC_ASSERT(sizeof(struct ducat_item) == 4 * DUCAT_ITEM_WORDS, "words of an item");
 DUCAT_STATIC_ASSERT(sizeof(struct ducat_guid) == 4 * DUCAT_GUID_WORDS, "words of a GUID");
 DUCAT_STATIC_ASSERT(sizeof(struct ducat_key) == 4 * DUCAT_KEY_WORDS, "words of a key");
 
@@ -288,7 +303,7 @@ struct ducat_area {
 };
 
 /* The DUCAT_AREAS areas, in the order in which they stand in the lent words; capacities and counts are in the same order. All
- * functions up to ducat_entry go by this table. */
+ * functions up to ducat_first_item go by this table. */
 DUCAT_INLINE const struct ducat_area *ducat_areas(void) {
     static const struct ducat_area areas[] = {
         {DUCAT_LIST_PROVIDERS, DUCAT_PROVIDER_WORDS},
@@ -301,6 +316,7 @@ DUCAT_INLINE const struct ducat_area *ducat_areas(void) {
         {DUCAT_LIST_MAP_ENTRIES, DUCAT_MAP_ENTRY_WORDS},
         {DUCAT_LIST_TEMPLATES, DUCAT_TEMPLATE_WORDS},
         {DUCAT_LIST_UNKNOWN_ELEMENTS, DUCAT_UNKNOWN_ELEMENT_WORDS},
+        {DUCAT_LIST_ITEMS, DUCAT_ITEM_WORDS},
     };
     DUCAT_STATIC_ASSERT(sizeof areas / sizeof areas[0] == DUCAT_AREAS, "the number of areas");
     return areas;
@@ -356,6 +372,24 @@ DUCAT_INLINE int ducat_entry(const uint32_t *words, const uint32_t *capacities, 
         return 0;
     memcpy(entry, words + ducat_start(capacities, list) + (size_t)number * ducat_areas()[area].words, entry_size);
     return 1;
+}
+
+/* The number in DUCAT_LIST_ITEMS of a template's first item, given the words, the capacities and the answer of an accepted reading,
+ * and the template's number. Its other items follow, as many in all as its item_descriptor_count; the number says nothing if that
+ * is 0. */
+DUCAT_INLINE uint32_t ducat_first_item(const uint32_t *words, const uint32_t *capacities, const uint64_t *answer,
+                                       uint32_t template_number) {
+    uint32_t low = 0, high = ducat_count(answer, DUCAT_LIST_ITEMS);
+    while (low < high) { /* the items stand by their templates' numbers */
+        uint32_t middle = low + (high - low) / 2;
+        struct ducat_item item;
+        ducat_entry(words, capacities, DUCAT_LIST_ITEMS, middle, &item, sizeof item);
+        if (item.template_number < template_number)
+            low = middle + 1;
+        else
+            high = middle;
+    }
+    return low;
 }
 
 /* Says what each list needs to take what the CRIM block at the start of the lent bytes holds. Gives the code, which is

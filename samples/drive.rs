@@ -1,5 +1,6 @@
 //! drive FOLDER: the samples. `drive.crim` is a block of the sort that a drive cabinet's provider file holds, written with the
-//! benchmark's writer; `drive.txt` is its listing, told from where the templates were written; `t.bin` is the blob T.
+//! benchmark's writer; `drive.txt` is its listing and `fields.txt` what its templates' items are, both told from what was written and
+//! where; `t.bin` is the blob T.
 
 #[path = "../oracle/generator/small.rs"]
 #[allow(dead_code)]
@@ -15,12 +16,25 @@ use writer::Writer;
 /// A message identifier that names none.
 const NONE: u32 = u32::MAX;
 
-/// What a value is, in BinXML.
-const U32: u8 = 0x08;
-const TEXT: u8 = 0x01;
+/// What a value is: its type in BinXML, the type that it is shown as, and its length in bytes.
+#[derive(Clone, Copy)]
+struct Type(u8, u8, u16);
+
+const U32: Type = Type(0x08, 0x08, 4);
+const TEXT: Type = Type(0x01, 0x01, 0);
 
 /// A name and what the value is.
-type Values = &'static [(&'static str, u8)];
+type Values = &'static [(&'static str, Type)];
+
+/// The field that `fields.txt` says the place of.
+const FIELD: &str = "Metres";
+
+/// What is told of the templates: a line for each in the listing, and its fields.
+#[derive(Default)]
+struct Told {
+    listing: String,
+    fields: String,
+}
 
 /// Identifier, level (2 to 4), task and opcode (counted from 1, 0 for none), keywords, and what it carries: an event that carries nothing
 /// has no template.
@@ -66,7 +80,14 @@ const PROVIDERS: [Provider; 3] = [
                 &[("Car", U32), ("Position", U32), ("Tick", U32)],
             ),
             (110, 4, 2, 0, 0, &[("Speed", U32)]),
-            (111, 3, 3, 0, 2, &[("Cause", U32), ("Position", U32)]),
+            (
+                111,
+                3,
+                3,
+                0,
+                2,
+                &[("Cause", U32), ("Position", U32), ("Metres", U32)],
+            ),
             (119, 2, 3, 0, 2, &[]),
         ],
     },
@@ -98,32 +119,33 @@ const PROVIDERS: [Provider; 3] = [
 fn main() -> std::io::Result<()> {
     let folder = PathBuf::from(std::env::args().nth(1).unwrap_or_else(|| ".".into()));
     let mut w = Writer::new(PROVIDERS.len() as u32);
-    let mut lines = String::new();
+    let mut told = Told::default();
     for (number, provider) in (0..).zip(&PROVIDERS) {
         for (part, word) in (0..).zip(provider.guid) {
             w.set(16 + 20 * number + 4 * part, word);
         }
-        let wevt = write(&mut w, number << 28, provider, &mut lines);
+        let wevt = write(&mut w, number << 28, provider, &mut told);
         w.provider(number, wevt);
     }
     let block = w.close();
-    let (size, providers, templates) = (block.len(), PROVIDERS.len(), lines.lines().count());
+    let (size, providers, templates) = (block.len(), PROVIDERS.len(), told.listing.lines().count());
     let events: usize = PROVIDERS.iter().map(|provider| provider.events.len()).sum();
     let first =
         format!("crim {size} providers {providers} events {events} templates {templates}\n");
     std::fs::write(folder.join("drive.crim"), block)?;
-    std::fs::write(folder.join("drive.txt"), first + &lines)?;
+    std::fs::write(folder.join("drive.txt"), first + &told.listing)?;
+    std::fs::write(folder.join("fields.txt"), told.fields)?;
     std::fs::write(folder.join("t.bin"), small::t())
 }
 
 /// A provider's tables and its WEVT, with message identifiers from a number on; gives the WEVT's place.
-fn write(w: &mut Writer, message: u32, provider: &Provider, lines: &mut String) -> u32 {
+fn write(w: &mut Writer, message: u32, provider: &Provider, told: &mut Told) -> u32 {
     let mut elements = Vec::new();
     let all = &mut elements;
     table(w, all, b"CHAN", provider.channels, |i, name| {
         vec![15 + i, name, 0, NONE]
     });
-    let templates = templates(w, all, provider.events, lines);
+    let templates = templates(w, all, provider.events, told);
     let levels = table(w, all, b"LEVL", &LEVELS, |i, name| {
         vec![1 + i, 0x5000_0001 + i, name]
     });
@@ -200,12 +222,12 @@ fn table(
     records
 }
 
-/// A template for each event that carries something, and its line; gives their places, 0 for none.
+/// A template for each event that carries something, and what is told of it; gives their places, 0 for none.
 fn templates(
     w: &mut Writer,
     elements: &mut Vec<u32>,
     events: &[Event],
-    lines: &mut String,
+    told: &mut Told,
 ) -> Vec<u32> {
     let with = events.iter().filter(|event| !event.5.is_empty()).count();
     if with == 0 {
@@ -220,10 +242,9 @@ fn templates(
             continue;
         }
         let temp = w.open(b"TEMP");
-        let count = values.len() as u32;
         w.words(&[
-            count,
-            count,
+            0,
+            0,
             0,
             1,
             identifier,
@@ -233,11 +254,18 @@ fn templates(
         ]);
         let binxml = binxml(values);
         w.bytes.extend(&binxml);
-        w.set(temp + 16, w.here());
-        items(w, values);
+        let items = values.iter().map(|&(name, Type(input, output, length))| {
+            let types = u32::from_le_bytes([input, output, 0, 0]);
+            (
+                [0, types, 0, 1 | u32::from(length) << 16],
+                name.encode_utf16(),
+            )
+        });
+        w.named_items(temp, items);
         w.end(temp);
         let (size, start, length) = (w.here() - temp, temp + 40, binxml.len());
-        *lines += &format!("template {temp} size {size} binxml {start} {length}\n");
+        told.listing += &format!("template {temp} size {size} binxml {start} {length}\n");
+        told.fields += &fields(temp, values);
         places.push(temp);
     }
     w.end(place);
@@ -245,22 +273,22 @@ fn templates(
     places
 }
 
-/// A template's items: a descriptor for each value, and behind them the names.
-fn items(w: &mut Writer, values: Values) {
-    let descriptors = w.here();
-    for &(_, kind) in values {
-        w.words(&[0, u32::from(kind), 0, 1, 0]);
+/// The fields of a template, as the Rust crate's example shows them, and where FIELD is among them.
+fn fields(temp: u32, values: Values) -> String {
+    let names: Vec<&str> = values.iter().map(|value| value.0).collect();
+    let mut lines = format!("template {temp}: {}\n", names.join(" "));
+    if let Some(number) = names.iter().position(|&name| name == FIELD) {
+        let Type(input, output, length) = values[number].1;
+        lines +=
+            &format!("  {FIELD}: field {number}, types {input} and {output}, length {length}\n");
     }
-    for (i, (name, _)) in (0..).zip(values) {
-        let name = w.name(name.encode_utf16());
-        w.set(descriptors + 20 * i + 16, name);
-    }
+    lines
 }
 
 /// The BinXML of `<EventData><Data Name="NAME">VALUE</Data>..</EventData>`.
 fn binxml(values: Values) -> Vec<u8> {
     let mut data = vec![0x02];
-    for (number, (name, kind)) in (0u16..).zip(values) {
+    for (number, (name, Type(input, _, _))) in (0u16..).zip(values) {
         let mut attribute = [&[0x06], &named("Name")[..], &[0x05, 0x01]].concat();
         attribute.extend((name.len() as u16).to_le_bytes());
         attribute.extend(name.encode_utf16().flat_map(u16::to_le_bytes));
@@ -268,7 +296,7 @@ fn binxml(values: Values) -> Vec<u8> {
         body.extend(attribute);
         body.extend([0x02, 0x0d]);
         body.extend(number.to_le_bytes());
-        body.extend([*kind, 0x04]);
+        body.extend([*input, 0x04]);
         data.extend(element(0x41, "Data", &body));
     }
     data.push(0x04);

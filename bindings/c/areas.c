@@ -20,6 +20,7 @@ static const struct {
     {DUCAT_LIST_MAP_ENTRIES, sizeof(struct ducat_map_entry)},
     {DUCAT_LIST_TEMPLATES, sizeof(struct ducat_template)},
     {DUCAT_LIST_UNKNOWN_ELEMENTS, sizeof(struct ducat_unknown_element)},
+    {DUCAT_LIST_ITEMS, sizeof(struct ducat_item)},
 };
 
 /* Lists that have no area. */

@@ -44,6 +44,21 @@ struct block block_t(void) {
     return t;
 }
 
+struct block block_u(void) {
+    struct block u = block_t();
+    u.length = 152;
+    put(u.bytes, 4, 152);
+    put(u.bytes, 68, 80);
+    put(u.bytes, 80, 68);
+    put(u.bytes, 84, 1);
+    put(u.bytes, 88, 1);
+    put(u.bytes, 92, 116);
+    put(u.bytes, 132, 136);
+    put(u.bytes, 136, 8);
+    put(u.bytes, 140, 'A');
+    return u;
+}
+
 uint8_t *block_of_levels(uint32_t levels, size_t *length) {
     *length = 76 + 12 * (size_t)levels;
     uint8_t *bytes = (uint8_t *)calloc(1, *length);

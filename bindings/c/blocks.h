@@ -22,6 +22,9 @@ struct block block_z(void);
 /* T: one provider with one table, a TTBL, with one template. */
 struct block block_t(void);
 
+/* U: T with an item, whose name is A, and 8 bytes behind the table. */
+struct block block_u(void);
+
 /* One provider with one table, a LEVL, with so many definitions: its bytes, to be freed, and their number. */
 uint8_t *block_of_levels(uint32_t levels, size_t *length);
 

@@ -103,11 +103,13 @@ static void apart(struct lists *l) {
         check(refused(l, 8, DUCAT_LISTS_APART), "a table that doesn't fit");
         check(refused(l, 0, DUCAT_LISTS_APART), "10 before 9");
     }
-    fill_lists(l);
-    set_count(l, DUCAT_LIST_UNKNOWN2, ROOM + 1);
-    check(refused(l, 8, DUCAT_LISTS_APART), "a count over its capacity, by key");
-    l->words_len--;
-    check(refused(l, 8, DUCAT_BAD_LENDING), "too few words, by key, before a count over its capacity");
+    for (size_t area = 0; area < DUCAT_AREAS; area++) {
+        fill_lists(l);
+        set_count(l, ducat_areas()[area].list, ROOM + 1);
+        check(refused(l, 8, DUCAT_LISTS_APART), "a count over its capacity, by key");
+        l->words_len--;
+        check(refused(l, 8, DUCAT_BAD_LENDING), "too few words, by key, before a count over its capacity");
+    }
 }
 
 static void lengths(struct lists *l) {

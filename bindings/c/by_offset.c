@@ -46,11 +46,13 @@ static void ranges(const struct lists *l) {
 void test_by_offset(void) {
     struct lists l = new_lists();
     ranges(&l);
-    set_count(&l, DUCAT_LIST_UNKNOWN_ELEMENTS, ROOM + 1);
-    check(refused(&l, 0, 4, 400, DUCAT_LISTS_APART), "a count over its capacity");
-    l.words_len--;
-    check(refused(&l, 0, 4, 400, DUCAT_BAD_LENDING), "too few words, before a count over its capacity");
-    fill_lists(&l);
+    for (size_t area = 0; area < DUCAT_AREAS; area++) {
+        set_count(&l, ducat_areas()[area].list, ROOM + 1);
+        check(refused(&l, 0, 4, 400, DUCAT_LISTS_APART), "a count over its capacity");
+        l.words_len--;
+        check(refused(&l, 0, 4, 400, DUCAT_BAD_LENDING), "too few words, before a count over its capacity");
+        fill_lists(&l);
+    }
     l.capacities_len = DUCAT_AREAS + 1;
     check(refused(&l, 0, 4, 400, DUCAT_BAD_LENDING), "a capacity too many");
     fill_lists(&l);

@@ -23,6 +23,7 @@ static void marked(const struct lending *l) {
     struct ducat_map_entry map_entry;
     struct ducat_template temp;
     struct ducat_unknown_element element;
+    struct ducat_item item;
     for (uint32_t i = 0; i < full_count(DUCAT_LIST_DESCRIPTORS); i++)
         check(ENTRY(l, DUCAT_LIST_DESCRIPTORS, i, descriptor) && descriptor.unknown == mark(DUCAT_LIST_DESCRIPTORS, i), "each descriptor");
     for (uint32_t i = 0; i < full_count(DUCAT_LIST_UNKNOWN2); i++)
@@ -40,6 +41,9 @@ static void marked(const struct lending *l) {
     for (uint32_t i = 0; i < full_count(DUCAT_LIST_UNKNOWN_ELEMENTS); i++)
         check(ENTRY(l, DUCAT_LIST_UNKNOWN_ELEMENTS, i, element) && element.signature == mark(DUCAT_LIST_UNKNOWN_ELEMENTS, i),
               "each unknown element");
+    for (uint32_t i = 0; i < full_count(DUCAT_LIST_ITEMS); i++)
+        check(ENTRY(l, DUCAT_LIST_ITEMS, i, item) && item.unknown1 == mark(DUCAT_LIST_ITEMS, i) &&
+              item.template_number == full_count(DUCAT_LIST_TEMPLATES) - 1, "each item");
 }
 
 static void provider(const struct lending *l, const struct block *b) {
@@ -110,22 +114,18 @@ static void maps(const struct lending *l) {
     check(ENTRY(l, DUCAT_LIST_MAPS, 2, m) && m.kind == DUCAT_OTHER_MAP && m.offset == behind + 4, "another map's fields");
 }
 
-/* T, with something in each field of its template. */
-static void template_of_t(void) {
-    struct block t = block_t();
+/* U, with something in each field of its template; the item starts four bytes later and has no name. */
+static void template_of_u(void) {
+    struct block u = block_u();
     struct lending l = lend_each(1);
     struct ducat_template e;
-    put(t.bytes, 4, 120);
-    put(t.bytes, 68, 56);
-    put(t.bytes, 80, 44);
-    put(t.bytes, 84, 2);
-    put(t.bytes, 88, 3);
-    put(t.bytes, 92, 120);
+    put(u.bytes, 88, 3);
+    put(u.bytes, 92, 120);
     for (uint32_t i = 0; i < 5; i++)
-        put(t.bytes, 96 + 4 * i, 4 + i);
-    t.length = 120;
-    check(ask_block(&l, &t) == DUCAT_ACCEPTED, "T with a fuller template");
-    check(ENTRY(&l, DUCAT_LIST_TEMPLATES, 0, e) && e.offset == 76 && e.size == 44 && e.item_descriptor_count == 2 &&
+        put(u.bytes, 96 + 4 * i, 4 + i);
+    put(u.bytes, 136, 0);
+    check(ask_block(&l, &u) == DUCAT_ACCEPTED, "U with a fuller template");
+    check(ENTRY(&l, DUCAT_LIST_TEMPLATES, 0, e) && e.offset == 76 && e.size == 68 && e.item_descriptor_count == 1 &&
           e.item_name_count == 3 && e.items_offset == 120 && e.event_type == 4 && rising(&e.guid, 5) && e.binxml_start == 116 &&
           e.binxml_length == 4, "a template's fields");
     take_back(&l);
@@ -151,5 +151,5 @@ void test_entries(void) {
     event(&l);
     maps(&l);
     take_back(&l);
-    template_of_t();
+    template_of_u();
 }

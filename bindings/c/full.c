@@ -1,8 +1,7 @@
 #include "full.h"
 
 #include "ducatfeather.h"
-
-#include <string.h>
+#include "writing.h"
 
 uint32_t full_count(uint32_t list) {
     switch (list) {
@@ -15,6 +14,7 @@ uint32_t full_count(uint32_t list) {
     case DUCAT_LIST_TABLES: return 8;
     case DUCAT_LIST_MAP_ENTRIES: return 9;
     case DUCAT_LIST_TEMPLATES: return 10;
+    case DUCAT_LIST_ITEMS: return 11;
     case DUCAT_LIST_DESCRIPTORS: return 12;
     default: return 0;
     }
@@ -24,73 +24,50 @@ uint32_t mark(uint32_t list, uint32_t number) {
     return 100 * list + number;
 }
 
-/* A block is written from its start on: a word, words that go up from one, zero bytes, four letters, whose place is given. */
-static void word(struct block *b, uint32_t value) {
-    put(b->bytes, b->length, value);
-    b->length += 4;
-}
-
-static void rising(struct block *b, uint32_t first, uint32_t count) {
-    for (uint32_t i = 0; i < count; i++)
-        word(b, first + i);
-}
-
-static void zeros(struct block *b, size_t count) {
-    memset(b->bytes + b->length, 0, count);
-    b->length += count;
-}
-
-static uint32_t letters(struct block *b, const char *four) {
-    uint32_t place = (uint32_t)b->length;
-    memcpy(b->bytes + place, four, 4);
-    b->length += 4;
-    return place;
-}
-
 /* A table of one definition, the one of this number, whose record is that long and goes on as given. */
 static uint32_t definition(struct block *b, const char *four, uint32_t number, uint32_t record, uint32_t second, uint32_t third) {
-    uint32_t place = letters(b, four);
-    word(b, 12 + record);
-    word(b, 1);
-    word(b, mark(DUCAT_LIST_DEFINITIONS, number));
-    word(b, second);
-    word(b, third);
+    uint32_t place = add_letters(b, four);
+    add_word(b, 12 + record);
+    add_word(b, 1);
+    add_word(b, mark(DUCAT_LIST_DEFINITIONS, number));
+    add_word(b, second);
+    add_word(b, third);
     return place;
 }
 
 static uint32_t channels(struct block *b) {
     uint32_t place = definition(b, "CHAN", 0, 16, FULL_NAME, 21);
-    word(b, 22);
+    add_word(b, 22);
     return place;
 }
 
 static uint32_t keywords(struct block *b) {
     uint32_t place = definition(b, "KEYW", 1, 16, 23, 24);
-    word(b, 0);
+    add_word(b, 0);
     return place;
 }
 
 static uint32_t tasks(struct block *b) {
     uint32_t place = definition(b, "TASK", 4, 28, 25, 26);
-    rising(b, 27, 3);
-    word(b, 0);
+    add_rising(b, 27, 3);
+    add_word(b, 0);
     return place;
 }
 
 /* Each event's fields are 1 to 15 and its mark. A word more stands behind the events. */
 static uint32_t events(struct block *b) {
     uint32_t count = full_count(DUCAT_LIST_EVENTS);
-    uint32_t place = letters(b, "EVNT");
-    word(b, 16 + 48 * count + 4);
-    word(b, count);
-    word(b, 31);
+    uint32_t place = add_letters(b, "EVNT");
+    add_word(b, 16 + 48 * count + 4);
+    add_word(b, count);
+    add_word(b, 31);
     for (uint32_t i = 0; i < count; i++) {
-        word(b, 1 + (2u << 16) + (3u << 24));
-        word(b, 4 + (5u << 8) + (6u << 16));
-        rising(b, 7, 9);
-        word(b, mark(DUCAT_LIST_EVENTS, i));
+        add_word(b, 1 + (2u << 16) + (3u << 24));
+        add_word(b, 4 + (5u << 8) + (6u << 16));
+        add_rising(b, 7, 9);
+        add_word(b, mark(DUCAT_LIST_EVENTS, i));
     }
-    zeros(b, 4);
+    add_zeros(b, 4);
     return place;
 }
 
@@ -98,63 +75,71 @@ static uint32_t events(struct block *b) {
 static uint32_t maps(struct block *b) {
     uint32_t count = full_count(DUCAT_LIST_MAP_ENTRIES);
     uint32_t size = 16 + 8 * count + 4;
-    uint32_t place = letters(b, "MAPS");
+    uint32_t place = add_letters(b, "MAPS");
     uint32_t behind = place + 16 + 8 + size;
-    word(b, behind + 8 - place);
-    word(b, full_count(DUCAT_LIST_MAPS));
-    zeros(b, 4);
-    word(b, behind);
-    word(b, behind + 4);
-    letters(b, "VMAP");
-    word(b, size);
-    word(b, FULL_NAME);
-    word(b, count);
+    add_word(b, behind + 8 - place);
+    add_word(b, full_count(DUCAT_LIST_MAPS));
+    add_zeros(b, 4);
+    add_word(b, behind);
+    add_word(b, behind + 4);
+    add_letters(b, "VMAP");
+    add_word(b, size);
+    add_word(b, FULL_NAME);
+    add_word(b, count);
     for (uint32_t i = 0; i < count; i++) {
-        word(b, 32);
-        word(b, mark(DUCAT_LIST_MAP_ENTRIES, i));
+        add_word(b, 32);
+        add_word(b, mark(DUCAT_LIST_MAP_ENTRIES, i));
     }
-    zeros(b, 4);
-    letters(b, "BMAP");
-    letters(b, "WHAT");
+    add_zeros(b, 4);
+    add_letters(b, "BMAP");
+    add_letters(b, "WHAT");
     return place;
 }
 
+/* The last template has all the items, which have no names. */
 static uint32_t templates(struct block *b) {
-    uint32_t count = full_count(DUCAT_LIST_TEMPLATES);
-    uint32_t place = letters(b, "TTBL");
-    word(b, 12 + 40 * count);
-    word(b, count);
+    uint32_t count = full_count(DUCAT_LIST_TEMPLATES), all = full_count(DUCAT_LIST_ITEMS);
+    uint32_t place = add_letters(b, "TTBL");
+    add_word(b, 12 + 40 * count + 20 * all);
+    add_word(b, count);
     for (uint32_t i = 0; i < count; i++) {
-        letters(b, "TEMP");
-        word(b, 40);
-        zeros(b, 12);
-        word(b, mark(DUCAT_LIST_TEMPLATES, i));
-        zeros(b, 16);
+        uint32_t items = i + 1 == count ? all : 0;
+        uint32_t temp = add_letters(b, "TEMP");
+        add_word(b, 40 + 20 * items);
+        add_word(b, items);
+        add_zeros(b, 4);
+        add_word(b, temp + 40);
+        add_word(b, mark(DUCAT_LIST_TEMPLATES, i));
+        add_zeros(b, 16);
+    }
+    for (uint32_t i = 0; i < all; i++) {
+        add_word(b, mark(DUCAT_LIST_ITEMS, i));
+        add_zeros(b, 16);
     }
     return place;
 }
 
 static void start(struct block *b) {
     b->length = 0;
-    letters(b, "CRIM");
-    zeros(b, 4);
-    word(b, 3 + (1u << 16));
-    word(b, full_count(DUCAT_LIST_PROVIDERS));
-    rising(b, 41, 4);
-    word(b, 36);
+    add_letters(b, "CRIM");
+    add_zeros(b, 4);
+    add_word(b, 3 + (1u << 16));
+    add_word(b, full_count(DUCAT_LIST_PROVIDERS));
+    add_rising(b, 41, 4);
+    add_word(b, 36);
 
-    letters(b, "WEVT");
-    word(b, 45);
-    word(b, mark(DUCAT_LIST_PROVIDERS, 0));
-    word(b, full_count(DUCAT_LIST_DESCRIPTORS));
-    word(b, full_count(DUCAT_LIST_UNKNOWN2));
+    add_letters(b, "WEVT");
+    add_word(b, 45);
+    add_word(b, mark(DUCAT_LIST_PROVIDERS, 0));
+    add_word(b, full_count(DUCAT_LIST_DESCRIPTORS));
+    add_word(b, full_count(DUCAT_LIST_UNKNOWN2));
     for (uint32_t i = 0; i < full_count(DUCAT_LIST_DESCRIPTORS); i++) {
-        zeros(b, 4);
-        word(b, mark(DUCAT_LIST_DESCRIPTORS, i));
+        add_zeros(b, 4);
+        add_word(b, mark(DUCAT_LIST_DESCRIPTORS, i));
     }
-    rising(b, mark(DUCAT_LIST_UNKNOWN2, 0), full_count(DUCAT_LIST_UNKNOWN2));
-    word(b, 8);
-    word(b, 'N');
+    add_rising(b, mark(DUCAT_LIST_UNKNOWN2, 0), full_count(DUCAT_LIST_UNKNOWN2));
+    add_word(b, 8);
+    add_word(b, 'N');
 }
 
 /* The next descriptor's element is at that place. */
@@ -177,8 +162,8 @@ struct block block_full(void) {
     element(&b, &descriptor, templates(&b));
     for (uint32_t i = 0; i < full_count(DUCAT_LIST_UNKNOWN_ELEMENTS); i++) {
         element(&b, &descriptor, (uint32_t)b.length);
-        word(&b, mark(DUCAT_LIST_UNKNOWN_ELEMENTS, i));
-        word(&b, 8);
+        add_word(&b, mark(DUCAT_LIST_UNKNOWN_ELEMENTS, i));
+        add_word(&b, 8);
     }
     put(b.bytes, 4, (uint32_t)b.length);
     return b;

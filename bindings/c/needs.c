@@ -99,8 +99,9 @@ static void as_the_reading(const struct block *b, int seen[CODES]) {
 
 static void refused(void) {
     int seen[CODES] = {0};
-    struct block t = block_t(), full = block_full();
+    struct block t = block_t(), u = block_u(), full = block_full();
     as_the_reading(&t, seen);
+    as_the_reading(&u, seen);
     as_the_reading(&full, seen);
     for (int code = DUCAT_ACCEPTED; code <= DUCAT_NOT_UTF16; code++)
         check(seen[code] > 0, "each code comes up in some damaged block");
@@ -166,10 +167,11 @@ static void bad_lending(void) {
 }
 
 void test_needs(void) {
-    struct block z = block_z(), t = block_t(), full = block_full();
+    struct block z = block_z(), t = block_t(), u = block_u(), full = block_full();
     said();
     exactly(&z);
     exactly(&t);
+    exactly(&u);
     exactly(&full);
     refused();
     many();

@@ -8,6 +8,8 @@ int main(int count, char **arguments) {
     test_areas();
     test_entries();
     test_reading();
+    test_items();
+    test_item_refusals();
     test_needs();
     test_by_offset();
     test_by_key();

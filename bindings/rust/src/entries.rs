@@ -5,7 +5,7 @@ use std::marker::PhantomData;
 use std::ops::Range;
 
 use crate::list::List;
-use crate::words::{FromWords, Words};
+use crate::words::{FromWords, Source, Words};
 
 /// What a list's words are read as. Other crates can't add to the types that have it.
 pub trait Entry<'a>: FromWords<'a> {
@@ -13,10 +13,13 @@ pub trait Entry<'a>: FromWords<'a> {
     const LIST: List;
 }
 
-/// The entries of a list, in its order.
+/// Entries of a list, in its order: all of them, or some that follow one another.
 pub struct Entries<'a, T> {
-    words: &'a [u32],
-    block: &'a [u8],
+    /// The words of the whole list.
+    list: &'a [u32],
+    /// The numbers that these have in it.
+    numbers: Range<usize>,
+    source: Source<'a>,
     entry: PhantomData<fn() -> T>,
 }
 
@@ -24,11 +27,12 @@ impl<'a, T: Entry<'a>> Entries<'a, T> {
     /// The words of one entry.
     const WORDS: usize = T::LIST.words();
 
-    /// The words are those of whole entries.
-    pub(crate) fn new(words: &'a [u32], block: &'a [u8]) -> Entries<'a, T> {
+    /// All entries of a list: the words are those of whole entries.
+    pub(crate) fn new(list: &'a [u32], source: Source<'a>) -> Entries<'a, T> {
         Entries {
-            words,
-            block,
+            list,
+            numbers: 0..list.len() / Self::WORDS,
+            source,
             entry: PhantomData,
         }
     }
@@ -42,8 +46,19 @@ impl<'a, T: Entry<'a>> Entries<'a, T> {
     pub fn part(&self, range: Range<usize>) -> Entries<'a, T> {
         let end = range.end.min(self.len());
         let start = range.start.min(end);
-        let words = &self.words[Self::WORDS * start..Self::WORDS * end];
-        Entries::new(words, self.block)
+        let first = self.numbers.start;
+        Entries {
+            numbers: first + start..first + end,
+            ..self.clone()
+        }
+    }
+
+    fn entry(&self, number: usize) -> T {
+        T::from_words(Words {
+            number,
+            words: &self.list[Self::WORDS * number..][..Self::WORDS],
+            source: self.source,
+        })
     }
 }
 
@@ -51,19 +66,15 @@ impl<'a, T: Entry<'a>> Iterator for Entries<'a, T> {
     type Item = T;
 
     fn next(&mut self) -> Option<T> {
-        let (entry, rest) = self.words.split_at_checked(Self::WORDS)?;
-        self.words = rest;
-        Some(T::from_words(Words(entry), self.block))
+        self.numbers.next().map(|number| self.entry(number))
     }
 
     fn nth(&mut self, number: usize) -> Option<T> {
-        *self = self.part(number..self.len());
-        self.next()
+        self.numbers.nth(number).map(|number| self.entry(number))
     }
 
     fn size_hint(&self) -> (usize, Option<usize>) {
-        let left = self.words.len() / Self::WORDS;
-        (left, Some(left))
+        self.numbers.size_hint()
     }
 }
 
@@ -74,6 +85,9 @@ impl<'a, T: Entry<'a>> FusedIterator for Entries<'a, T> {}
 // Not derived: that would ask for a `T` that can be copied.
 impl<T> Clone for Entries<'_, T> {
     fn clone(&self) -> Self {
-        Entries { ..*self }
+        Entries {
+            numbers: self.numbers.clone(),
+            ..*self
+        }
     }
 }

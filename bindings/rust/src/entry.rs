@@ -3,6 +3,7 @@
 use std::ops::Range;
 
 use crate::entries::Entry;
+use crate::items::ItemsOf;
 use crate::list::List;
 use crate::parts::{Guid, Name, Part, Signature};
 
@@ -198,6 +199,7 @@ pub struct Template<'a> {
     pub guid: Guid,
     /// Its BinXML.
     pub binxml: Part<'a>,
+    pub(crate) items: ItemsOf<'a>,
 }
 
 /// List 10: an element that is no table of a known kind.
@@ -214,6 +216,33 @@ pub struct UnknownElement<'a> {
     pub size: u32,
     /// All its bytes, signature and size included.
     pub data: Part<'a>,
+}
+
+/// List 12: an item of a template. It says what one of the values is that an event with this
+/// template carries.
+#[derive(Clone, Copy, Debug, PartialEq, Eq)]
+#[non_exhaustive]
+pub struct Item<'a> {
+    /// The number of the template that it belongs to.
+    pub template: u32,
+    /// A word whose meaning isn't known.
+    pub unknown1: u32,
+    /// The type of the value in the event.
+    pub input_type: u8,
+    /// The type that the value is shown as.
+    pub output_type: u8,
+    /// A number whose meaning isn't known.
+    pub unknown3: u16,
+    /// A word whose meaning isn't known.
+    pub unknown4: u32,
+    /// How many values it stands for.
+    pub count: u16,
+    /// The length of the value.
+    pub length: u16,
+    /// The place of its name; 0 if it has none.
+    pub name_offset: u32,
+    /// Its name.
+    pub name: Option<Name<'a>>,
 }
 
 impl Entry<'_> for Provider {
@@ -255,4 +284,8 @@ impl<'a> Entry<'a> for Template<'a> {
 
 impl<'a> Entry<'a> for UnknownElement<'a> {
     const LIST: List = List::UnknownElements;
+}
+
+impl<'a> Entry<'a> for Item<'a> {
+    const LIST: List = List::Items;
 }

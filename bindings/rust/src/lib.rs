@@ -34,6 +34,22 @@
 //! # Ok::<(), Box<dyn std::error::Error>>(())
 //! ```
 //!
+//! A template's items name the values that its events carry. The metres, say, are found by their
+//! name:
+//!
+//! ```
+//! # let blob = std::fs::read("../../samples/drive.crim")?;
+//! # let manifest = ducatfeather::read(&blob)?;
+//! for template in manifest.templates() {
+//!     if let Some(metres) = template.item_named("Metres") {
+//!         println!("{}: metres, of type {}", template.guid, metres.input_type);
+//!     }
+//! }
+//! # let having = manifest.templates().filter(|t| t.item_named("Metres").is_some());
+//! # assert_eq!(having.count(), 1);
+//! # Ok::<(), Box<dyn std::error::Error>>(())
+//! ```
+//!
 //! Reading and finding are done by the library that this crate is linked with; here its words are
 //! only given names and types. docs/FORMAT.md says what each of them means.
 //!
@@ -46,6 +62,7 @@ mod capacities;
 mod entries;
 mod entry;
 mod fields;
+mod items;
 mod key;
 mod list;
 mod manifest;
@@ -58,7 +75,7 @@ mod words;
 pub use capacities::Capacities;
 pub use entries::{Entries, Entry};
 pub use entry::{
-    Definition, Descriptor, Event, Kind, Map, MapEntry, MapKind, Provider, Table, Template,
+    Definition, Descriptor, Event, Item, Kind, Map, MapEntry, MapKind, Provider, Table, Template,
     UnknownElement,
 };
 pub use fields::Field;

@@ -26,6 +26,8 @@ pub enum List {
     Templates = 9,
     /// Elements that are no tables of a known kind.
     UnknownElements = 10,
+    /// The items of templates.
+    Items = 12,
 }
 
 /// The lists in the order of their areas, capacities and counts: each with the words of one entry
@@ -41,6 +43,7 @@ const TABLE: &[(List, usize, &str)] = &[
     (List::MapEntries, 2, "map entries"),
     (List::Templates, 12, "templates"),
     (List::UnknownElements, 4, "unknown elements"),
+    (List::Items, 9, "items"),
 ];
 
 /// How many lists there are.

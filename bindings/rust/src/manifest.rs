@@ -6,7 +6,7 @@ use std::ops::Range;
 use crate::capacities::Capacities;
 use crate::entries::{Entries, Entry};
 use crate::entry::{
-    Definition, Descriptor, Event, Map, MapEntry, Provider, Table, Template, UnknownElement,
+    Definition, Descriptor, Event, Item, Map, MapEntry, Provider, Table, Template, UnknownElement,
 };
 use crate::key::Key;
 use crate::list::List;
@@ -14,6 +14,7 @@ use crate::parts::Guid;
 use crate::raw;
 use crate::read::Accepted;
 use crate::refusal::Refusal;
+use crate::words::Source;
 
 /// What an accepted block holds: its lists.
 #[derive(Clone, Debug)]
@@ -104,6 +105,12 @@ impl<'a> Manifest<'a> {
         self.list()
     }
 
+    /// The items of all templates, by their templates' numbers: those of the first template, then
+    /// those of the second, and so on. [`Template::items`] gives the items of one.
+    pub fn items(&self) -> Entries<'_, Item<'_>> {
+        self.list()
+    }
+
     /// The number of the lowest template at an offset, among those that these are the numbers of;
     /// nothing if there is none. A range past the list is refused.
     ///
@@ -178,7 +185,11 @@ impl<'a> Manifest<'a> {
     }
 
     fn list<'m, T: Entry<'m>>(&'m self) -> Entries<'m, T> {
-        Entries::new(self.words(T::LIST), self.block)
+        let source = Source {
+            block: self.block,
+            items: self.words(List::Items),
+        };
+        Entries::new(self.words(T::LIST), source)
     }
 }
 

@@ -123,9 +123,10 @@ impl fmt::Debug for Name<'_> {
     }
 }
 
+/// Unit by unit, so that a name is equal to no other text than its own.
 impl PartialEq<str> for Name<'_> {
     fn eq(&self, text: &str) -> bool {
-        self.chars().eq(text.chars())
+        self.units().eq(text.encode_utf16())
     }
 }
 

@@ -252,7 +252,14 @@ mod tests {
     #[test]
     fn what_has_no_case_here() {
         // A code, and the number of a list.
-        for (code, first) in [(14, 7), (u32::MAX, 7), (9, 11), (9, 0), (9, u64::MAX)] {
+        for (code, first) in [
+            (14, 7),
+            (u32::MAX, 7),
+            (9, 11),
+            (9, 13),
+            (9, 0),
+            (9, u64::MAX),
+        ] {
             let refusal = Refusal::new(code, [82, 76, first, 8]);
             let other = Refusal::Other {
                 code,

@@ -3,19 +3,34 @@
 use std::ops::Range;
 
 use crate::entry::{
-    Definition, Descriptor, Event, Kind, Map, MapEntry, MapKind, Provider, Table, Template,
+    Definition, Descriptor, Event, Item, Kind, Map, MapEntry, MapKind, Provider, Table, Template,
     UnknownElement,
 };
+use crate::items::ItemsOf;
 use crate::parts::{Guid, Name, Part, Signature};
 
+/// What entries lead to.
+#[derive(Clone, Copy)]
+pub struct Source<'a> {
+    /// The block that they were read from.
+    pub(crate) block: &'a [u8],
+    /// The words of the list of items.
+    pub(crate) items: &'a [u32],
+}
+
 /// The words of one entry, as many as the list's entries have.
-pub struct Words<'w>(pub(crate) &'w [u32]);
+pub struct Words<'a> {
+    /// The entry's number in its list.
+    pub(crate) number: usize,
+    pub(crate) words: &'a [u32],
+    pub(crate) source: Source<'a>,
+}
 
 /// What can be read from the words of an entry. Other crates can't name this trait, and so can't
 /// add to those that need it; nor can they make words, and so can't call it.
 pub trait FromWords<'a>: Sized {
-    /// The entry of these words, read from this block.
-    fn from_words(words: Words<'_>, block: &'a [u8]) -> Self;
+    /// The entry of these words.
+    fn from_words(words: Words<'a>) -> Self;
 }
 
 /// A message's number; the highest there is says that there is none.
@@ -38,8 +53,8 @@ fn numbers(first: u32, count: u32) -> Range<usize> {
 }
 
 /// The entry's words, by their number.
-fn exactly<const N: usize>(words: Words<'_>) -> [u32; N] {
-    words.0.try_into().expect("an entry's words")
+fn exactly<const N: usize>(words: &Words<'_>) -> [u32; N] {
+    words.words.try_into().expect("an entry's words")
 }
 
 impl Kind {
@@ -59,7 +74,7 @@ impl Kind {
 }
 
 impl FromWords<'_> for Provider {
-    fn from_words(words: Words<'_>, _: &[u8]) -> Provider {
+    fn from_words(words: Words<'_>) -> Provider {
         let [
             a,
             b,
@@ -70,7 +85,7 @@ impl FromWords<'_> for Provider {
             text,
             descriptor_count,
             unknown2_count,
-        ] = exactly(words);
+        ] = exactly(&words);
         Provider {
             guid: Guid::from_words([a, b, c, d]),
             offset,
@@ -83,8 +98,8 @@ impl FromWords<'_> for Provider {
 }
 
 impl FromWords<'_> for Descriptor {
-    fn from_words(words: Words<'_>, _: &[u8]) -> Descriptor {
-        let [offset, unknown, signature] = exactly(words);
+    fn from_words(words: Words<'_>) -> Descriptor {
+        let [offset, unknown, signature] = exactly(&words);
         Descriptor {
             offset,
             unknown,
@@ -94,14 +109,14 @@ impl FromWords<'_> for Descriptor {
 }
 
 impl FromWords<'_> for u32 {
-    fn from_words(words: Words<'_>, _: &[u8]) -> u32 {
-        let [word] = exactly(words);
+    fn from_words(words: Words<'_>) -> u32 {
+        let [word] = exactly(&words);
         word
     }
 }
 
 impl<'a> FromWords<'a> for Table<'a> {
-    fn from_words(words: Words<'_>, block: &'a [u8]) -> Table<'a> {
+    fn from_words(words: Words<'a>) -> Table<'a> {
         let [
             provider,
             kind,
@@ -112,7 +127,7 @@ impl<'a> FromWords<'a> for Table<'a> {
             count,
             start,
             length,
-        ] = exactly(words);
+        ] = exactly(&words);
         Table {
             provider,
             kind: Kind::from_word(kind),
@@ -120,13 +135,13 @@ impl<'a> FromWords<'a> for Table<'a> {
             size,
             extra,
             entries: numbers(first, count),
-            trailing: Part::of(block, start, length),
+            trailing: Part::of(words.source.block, start, length),
         }
     }
 }
 
 impl<'a> FromWords<'a> for Definition<'a> {
-    fn from_words(words: Words<'_>, block: &'a [u8]) -> Definition<'a> {
+    fn from_words(words: Words<'a>) -> Definition<'a> {
         let [
             kind,
             low,
@@ -137,13 +152,13 @@ impl<'a> FromWords<'a> for Definition<'a> {
             units,
             unknown,
             mui @ ..,
-        ] = exactly::<12>(words);
+        ] = exactly::<12>(&words);
         Definition {
             kind: Kind::from_word(kind),
             identifier: long(low, high),
             message: message(text),
             name_offset: offset,
-            name: Name::of(block, offset, start, units),
+            name: Name::of(words.source.block, offset, start, units),
             unknown,
             mui: Guid::from_words(mui),
         }
@@ -151,7 +166,7 @@ impl<'a> FromWords<'a> for Definition<'a> {
 }
 
 impl FromWords<'_> for Event {
-    fn from_words(words: Words<'_>, _: &[u8]) -> Event {
+    fn from_words(words: Words<'_>) -> Event {
         let [
             identifier,
             version,
@@ -169,7 +184,7 @@ impl FromWords<'_> for Event {
             unknown_count,
             unknown_offset,
             flags,
-        ] = exactly(words);
+        ] = exactly(&words);
         // The narrow fields were read from one or two bytes.
         Event {
             identifier: identifier as u16,
@@ -192,7 +207,7 @@ impl FromWords<'_> for Event {
 }
 
 impl<'a> FromWords<'a> for Map<'a> {
-    fn from_words(words: Words<'_>, block: &'a [u8]) -> Map<'a> {
+    fn from_words(words: Words<'a>) -> Map<'a> {
         let [
             kind,
             signature,
@@ -205,7 +220,7 @@ impl<'a> FromWords<'a> for Map<'a> {
             count,
             start,
             length,
-        ] = exactly(words);
+        ] = exactly(&words);
         Map {
             kind: match kind {
                 1 => MapKind::Vmap,
@@ -216,16 +231,16 @@ impl<'a> FromWords<'a> for Map<'a> {
             offset,
             size,
             string_offset,
-            name: Name::of(block, string_offset, name_start, name_units),
+            name: Name::of(words.source.block, string_offset, name_start, name_units),
             entries: numbers(first, count),
-            data: Part::of(block, start, length),
+            data: Part::of(words.source.block, start, length),
         }
     }
 }
 
 impl FromWords<'_> for MapEntry {
-    fn from_words(words: Words<'_>, _: &[u8]) -> MapEntry {
-        let [identifier, text] = exactly(words);
+    fn from_words(words: Words<'_>) -> MapEntry {
+        let [identifier, text] = exactly(&words);
         MapEntry {
             identifier,
             message: message(text),
@@ -234,7 +249,7 @@ impl FromWords<'_> for MapEntry {
 }
 
 impl<'a> FromWords<'a> for Template<'a> {
-    fn from_words(words: Words<'_>, block: &'a [u8]) -> Template<'a> {
+    fn from_words(words: Words<'a>) -> Template<'a> {
         let [
             offset,
             size,
@@ -248,7 +263,7 @@ impl<'a> FromWords<'a> for Template<'a> {
             d,
             start,
             length,
-        ] = exactly(words);
+        ] = exactly(&words);
         Template {
             offset,
             size,
@@ -257,20 +272,55 @@ impl<'a> FromWords<'a> for Template<'a> {
             items_offset,
             event_type,
             guid: Guid::from_words([a, b, c, d]),
-            binxml: Part::of(block, start, length),
+            binxml: Part::of(words.source.block, start, length),
+            items: ItemsOf {
+                template: words.number as u32,
+                count: item_descriptor_count as usize,
+                source: words.source,
+            },
         }
     }
 }
 
 impl<'a> FromWords<'a> for UnknownElement<'a> {
-    fn from_words(words: Words<'_>, block: &'a [u8]) -> UnknownElement<'a> {
-        let [provider, signature, offset, size] = exactly(words);
+    fn from_words(words: Words<'a>) -> UnknownElement<'a> {
+        let [provider, signature, offset, size] = exactly(&words);
         UnknownElement {
             provider,
             signature: Signature::from_word(signature),
             offset,
             size,
-            data: Part::of(block, offset, size),
+            data: Part::of(words.source.block, offset, size),
+        }
+    }
+}
+
+impl<'a> FromWords<'a> for Item<'a> {
+    fn from_words(words: Words<'a>) -> Item<'a> {
+        let [
+            template,
+            unknown1,
+            types,
+            unknown3,
+            unknown4,
+            count_and_length,
+            offset,
+            start,
+            units,
+        ] = exactly(&words);
+        // The narrow fields were read from one or two bytes.
+        let [input_type, output_type, ..] = types.to_le_bytes();
+        Item {
+            template,
+            unknown1,
+            input_type,
+            output_type,
+            unknown3: unknown3 as u16,
+            unknown4,
+            count: count_and_length as u16,
+            length: (count_and_length >> 16) as u16,
+            name_offset: offset,
+            name: Name::of(words.source.block, offset, start, units),
         }
     }
 }

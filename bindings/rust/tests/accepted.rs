@@ -20,6 +20,7 @@ fn counts(manifest: &Manifest) -> Capacities {
         (List::MapEntries, manifest.map_entries().len()),
         (List::Templates, manifest.templates().len()),
         (List::UnknownElements, manifest.unknown_elements().len()),
+        (List::Items, manifest.items().len()),
     ];
     // A list that is forgotten above has a count that no block has.
     let none = Capacities::each(u32::MAX);
@@ -125,10 +126,23 @@ fn every_list() {
     assert_eq!(template.event_type, 3);
     assert_eq!(template.guid, Guid(std::array::from_fn(|i| i as u8 + 17)));
     assert_eq!(template.binxml.bytes, [0xf, 0x1]);
+    let counts = (template.item_descriptor_count, template.item_name_count);
+    assert_eq!(
+        (counts, template.items_offset),
+        ((1, 1), template.offset + 42)
+    );
 
     let unknown = manifest.unknown_elements().next().unwrap();
     assert_eq!(unknown.signature, Signature(*b"What"));
     assert_eq!(unknown.data.bytes, b"What\x09\0\0\0\x21");
+
+    let item = manifest.items().next().unwrap();
+    assert_eq!((item.template, item.unknown1), (0, 50));
+    assert_eq!((item.input_type, item.output_type), (51, 52));
+    assert_eq!((item.unknown3, item.unknown4), (53, 54));
+    assert_eq!((item.count, item.length), (55, 56));
+    assert_eq!(item.name_offset, template.offset + 62);
+    assert_eq!(item.name.unwrap(), "MΣ");
 }
 
 #[test]

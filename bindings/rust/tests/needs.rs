@@ -2,19 +2,20 @@
 
 mod blobs;
 
-use blobs::{rich, rich_needs, shared, t, t_needs, with, z};
+use blobs::{rich, rich_needs, shared, shared_items, t, t_needs, u, u_needs, with, z};
 use ducatfeather::{Capacities, List, Refusal, needs, raw, read, read_into};
 
 /// Blocks that are accepted.
-fn accepted() -> [Vec<u8>; 4] {
+fn accepted() -> [Vec<u8>; 5] {
     let drive = include_bytes!("../../../samples/drive.crim");
-    [z(), t(), rich(), drive.to_vec()]
+    [z(), t(), u(), rich(), drive.to_vec()]
 }
 
 #[test]
 fn what_each_list_needs() {
     assert_eq!(needs(&z()), Ok(Capacities::each(0)));
     assert_eq!(needs(&t()), Ok(t_needs()));
+    assert_eq!(needs(&u()), Ok(u_needs()));
     assert_eq!(needs(&rich()), Ok(rich_needs()));
     // What is lent behind the block doesn't matter.
     assert_eq!(needs(&[rich(), rich()].concat()), Ok(rich_needs()));
@@ -99,6 +100,27 @@ fn more_than_there_can_be_room_for() {
         assert_eq!(needs.of(list), 65_537);
         assert_eq!(needs.words(), None);
         assert_eq!(too_small(read(&blob).unwrap_err()), (list, 65_536));
+    }
+}
+
+#[test]
+fn many_items() {
+    for (providers, items) in [(1, 65_536), (256, 256)] {
+        let blob = shared_items(providers, items);
+        let expected = shared_needs(providers, 1).with(List::Items, 65_536);
+        assert_eq!(needs(&blob), Ok(expected));
+        let manifest = read(&blob).unwrap();
+        assert_eq!(manifest.items().len(), 65_536);
+        let last = manifest.templates().last().unwrap();
+        assert_eq!(last.items().len(), items as usize);
+        assert!(last.items().all(|item| item.template == providers - 1));
+    }
+    for (providers, items) in [(1, 65_537), (257, 256), (1_000, 2_000)] {
+        let blob = shared_items(providers, items);
+        let expected = shared_needs(providers, 1).with(List::Items, 65_537);
+        assert_eq!(needs(&blob), Ok(expected));
+        let refusal = read(&blob).unwrap_err();
+        assert_eq!(too_small(refusal), (List::Items, 65_536));
     }
 }
 

@@ -2,7 +2,7 @@
 
 mod blobs;
 
-use blobs::{rich, rich_needs, t, with, z};
+use blobs::{rich, rich_needs, t, u, with, z};
 use ducatfeather::{Capacities, Field, List, Refusal, raw, read_into};
 
 /// The refusal of a block; the lent words must be as they were.
@@ -65,6 +65,31 @@ fn the_cases_of_the_format() {
         4,
         &format!("{field} at 88: a count of 1 is refused"),
     );
+}
+
+#[test]
+fn items() {
+    let array = "template item descriptors";
+    let short = "cut short, 40 bytes are needed and 28 are there";
+    says(&with(&u(), 84, 2), 1, &format!("{array} at 116: {short}"));
+    let short = "cut short, 20 bytes are needed and 0 are there";
+    says(&with(&u(), 92, 0), 1, &format!("{array} at 144: {short}"));
+    let short = "cut short, 85899345900 bytes are needed and 28 are there";
+    let many = with(&u(), 84, u32::MAX);
+    says(&many, 1, &format!("{array} at 116: {short}"));
+    let bounds = "this offset is out of bounds, the length is";
+    let before = format!("template item name_offset at 75: {bounds} 152");
+    says(&with(&u(), 132, 75), 5, &before);
+    let past = format!("template item name at 145: {bounds} 144");
+    says(&with(&u(), 132, 145), 5, &past);
+    let short = "cut short, 4 bytes are needed and 0 are there";
+    let end = format!("template item name at 144: {short}");
+    says(&with(&u(), 132, 144), 1, &end);
+    let size = "template item name at 136: 3 is out of bounds";
+    says(&with(&u(), 136, 3), 3, size);
+    let text = "template item name at 136: the text is not UTF-16";
+    says(&with(&u(), 136, 7), 6, text);
+    says(&with(&u(), 140, 0xdc00), 6, text);
 }
 
 #[test]

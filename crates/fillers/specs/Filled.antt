@@ -2,7 +2,7 @@
 use Prim.Native.Nat.{ℕ, zero, suc, _+_, _*_, _≤_, _<_}
 use mathlib.Core.Path.{_≡_, refl, ap, sym, _∙_, subst}
 use mathlib.Core.Bool.{true}
-use mathlib.Core.List.{List, [], _∷_, _++_, append-nil}
+use mathlib.Core.List.{List, [], _∷_, _++_, map, append-nil}
 use native.Mathlib.Nat.{mul-suc}
 use native.Mathlib.Omega.{arith}
 use lib.ListN.{length, getD, set, length-append, length-set}
@@ -10,18 +10,18 @@ use lib.Seq.{getD-set-same}
 use borrow.Author.Tests.{ne-eqb}
 use Rattle.blob.specs.declared.Verdict.the-variants as verdicts
 use Rattle.blob.specs.Reading.{Reading, Outcome, done, refused, run, many, verdict, values}
-use Rattle.blob.specs.Laid.{flat, laid}
+use Rattle.blob.specs.Laid.{flat, flat-append, flat-map, laid}
 use Rattle.blob.specs.Laws.{fine-value, length-flat}
 use Rattle.format.specs.Area as list
-use Rattle.format.specs.Area.{TABLES, DEFINITIONS, EVENTS, ENTRIES, TEMPLATES, AREAS, place, of, more, width}
+use Rattle.format.specs.Area.{TABLES, DEFINITIONS, EVENTS, ENTRIES, TEMPLATES, ITEMS, AREAS, place, of, more, width}
 use Rattle.format.specs.Table.{EVNT, MAPS, TTBL, kindList, stride}
 use Rattle.format.specs.Definition.{step, definitionsAt}
 use Rattle.format.specs.Event.{eventAt}
-use Rattle.format.specs.Template.{templatesAt}
+use Rattle.format.specs.Template.{Template, templatesAt}
 use Rattle.format.specs.Map.{Mapped, mapsAt}
 use Rattle.format.specs.Provider.{Rows, Table, tableAt}
-use Rattle.format.specs.Lists.{definitionsIn, eventsIn, mapsIn, templatesIn, definitionWords, eventWords, templateWords, mapList, mapEntryWords}
-use Rattle.format.specs.steps.Needs.{entryCount}
+use Rattle.format.specs.Lists.{definitionsIn, eventsIn, mapsIn, templatesIn, definitionWords, eventWords, templateWords, itemWords, itemList, mapList, mapEntryWords}
+use Rattle.format.specs.steps.Needs.{total, entryCount, itemCount}
 use Rattle.format.specs.steps.Parts.{Counted, TablesRoom, TablesStored, tablePart, tableParts, behind, behindAll}
 use Rattle.format.specs.declared.Header.{Header}
 use Rattle.counts.specs.Short.{kind-row}
@@ -42,15 +42,15 @@ definitions-stride (suc (suc (suc (suc (suc (suc (suc (suc zero)))))))) h g e = 
 definitions-stride (suc (suc (suc (suc (suc (suc (suc (suc (suc k))))))))) h g e = absurd (omega arith)
 
 -- a list that is none of the others is taken for that of templates
-module _ (l : ℕ) (t : l ≡ TABLES → ⊥) (d : l ≡ DEFINITIONS → ⊥) (e : l ≡ EVENTS → ⊥) (m : l ≡ list.MAPS → ⊥) (n : l ≡ ENTRIES → ⊥) where
+module _ (l : ℕ) (t : l ≡ TABLES → ⊥) (d : l ≡ DEFINITIONS → ⊥) (e : l ≡ EVENTS → ⊥) (m : l ≡ list.MAPS → ⊥) (n : l ≡ ENTRIES → ⊥) (i : l ≡ ITEMS → ⊥) where
   pub as-templates : (k : ℕ) → hasEntries l k ≡ hasEntries TEMPLATES k
-  as-templates k = rw (ne-eqb l TABLES t, ne-eqb l DEFINITIONS d, ne-eqb l EVENTS e, ne-eqb l list.MAPS m, ne-eqb l ENTRIES n)
+  as-templates k = rw (ne-eqb l TABLES t, ne-eqb l DEFINITIONS d, ne-eqb l EVENTS e, ne-eqb l list.MAPS m, ne-eqb l ENTRIES n, ne-eqb l ITEMS i)
 
-  pub parts-templates : (i : ℕ) (before : List ℕ) (o : Outcome Table)
-      → (tableParts l i before (only o) ≡ tableParts TEMPLATES i before (only o)) × (behindAll l before (only o) ≡ behindAll TEMPLATES before (only o))
+  pub parts-templates : (p : ℕ) (before : List ℕ) (o : Outcome Table)
+      → (tableParts l p before (only o) ≡ tableParts TEMPLATES p before (only o)) × (behindAll l before (only o) ≡ behindAll TEMPLATES before (only o))
   unfolding tableParts behindAll tablePart
-  parts-templates i before (done t') = rw (ne-eqb l TABLES t, ne-eqb l DEFINITIONS d, ne-eqb l EVENTS e, ne-eqb l list.MAPS m, ne-eqb l ENTRIES n) (refl, refl)
-  parts-templates i before (refused r) = (refl, refl)
+  parts-templates p before (done t') = rw (ne-eqb l TABLES t, ne-eqb l DEFINITIONS d, ne-eqb l EVENTS e, ne-eqb l list.MAPS m, ne-eqb l ENTRIES n, ne-eqb l ITEMS i) (refl, refl)
+  parts-templates p before (refused r) = (refl, refl)
 
 -- how many words maps, and their entries, have
 maps-words : (n : ℕ) (ms : List Mapped) → length (flat (λ e. e) (mapList n ms)) ≡ width list.MAPS * length ms
@@ -59,9 +59,17 @@ maps-words n [] = refl
 maps-words n (m ∷ ms) = simp (maps-words (n + length (m .entries)) ms, mul-suc) (omega arith)
 
 entries-words : (ms : List Mapped) → length (flat (λ m. flat mapEntryWords (m .entries)) ms) ≡ width ENTRIES * entryCount ms
-unfolding flat entryCount
+unfolding flat total
 entries-words [] = refl
 entries-words (m ∷ ms) = simp (length-append, length-flat mapEntryWords (width ENTRIES) (λ x. refl) (m .entries), entries-words ms) (omega arith)
+
+-- and how many items have
+items-words : (n : ℕ) (ts : List Template) → length (flat (λ e. e) (itemList n ts)) ≡ width ITEMS * itemCount ts
+unfolding flat itemList total
+items-words n [] = refl
+items-words n (t ∷ ts) =
+    simp (flat-append (λ e. e) (map (itemWords n) (t .items)) (itemList (suc n) ts), length-append, flat-map (λ e. e) (itemWords n) (t .items), length-flat (itemWords n) (width ITEMS) (λ i. refl) (t .items), items-words (suc n) ts)
+    (omega arith)
 
 module _ (k at : ℕ) (h : Header) (s : List ℕ) (v : verdict (run (tableAt k at h) s) ≡ verdicts.Fine) where
   abbrev found : Outcome Table
@@ -162,6 +170,26 @@ module _ (k at : ℕ) (h : Header) (s : List ℕ) (v : verdict (run (tableAt k a
         omega (arith, roomed list.MAPS n before area _ r refl, long),
         few-more ENTRIES _ before (omega arith) (subst Counted (one-behind list.MAPS n before) (r .few)),
         λ m area' e g. stored list.MAPS n before area area' _ _ _ refl (sym long) (ap (set before (place ENTRIES)) e) g,
+      )
+
+  -- list 12: the items, by their templates, which are counted
+  pub fills-items : k ≡ TTBL → (n : ℕ) (before area : List ℕ) → TablesRoom ITEMS n before (only found) area
+      → (verdict (run (templatesAt at h) s) ≡ verdicts.Fine)
+      × (width ITEMS * itemCount (values (run (templatesAt at h) s)) ≤ length area)
+      × (of TEMPLATES before + h .count ≤ 65536)
+      × ((m : ℕ) (area' : List ℕ) → m ≡ width ITEMS * itemCount (values (run (templatesAt at h) s))
+      → area' ≡ laid area 0 (flat (λ e. e) (itemList (of TEMPLATES before) (values (run (templatesAt at h) s))))
+      → TablesStored ITEMS n before (only found) area m (more TEMPLATES (h .count) before) area')
+  unfolding tablePart
+  fills-items q n before area r =
+      let x = templates-in k at h s here (fine-value found v .1) q in
+      let long = items-words (of TEMPLATES before) (templatesIn (here .rows)) in
+      let counts = ap (λ m. more TEMPLATES m before) (x .1) in
+      rw (x .0) (
+        refl,
+        omega (arith, roomed ITEMS n before area _ r refl, long),
+        few-more TEMPLATES _ before (omega arith) (subst Counted (one-behind ITEMS n before ∙ counts) (r .few)),
+        λ m area' e g. stored ITEMS n before area area' _ _ _ refl (e ∙ sym long) (sym counts) g,
       )
 
   -- list 4: the table itself, whose entries are counted

@@ -1,12 +1,12 @@
 -- What a list has of the table of a kind that is kept: its rows, or nothing.
-use Prim.Native.Nat.{ℕ, zero, suc, _+_, _-_, _≤_, _<_}
+use Prim.{tt}
+use Prim.Native.Nat.{ℕ, _+_, _-_, _≤_, _<_}
 use mathlib.Core.Path.{_≡_, refl, ap, ap₂, sym, _∙_, subst}
 use mathlib.Core.Bool.{Bool, true, false}
 use mathlib.Core.List.{List, [], _∷_, _++_}
 use mathlib.Core.Logic.{_⊎_, inl, inr, ⊎-elim}
-use native.Mathlib.Nat.{add-zero}
 use native.Mathlib.Omega.{arith}
-use lib.ListN.{length, getD, set}
+use lib.ListN.{length}
 use lib.Dec.{eqb}
 use borrow.Rule.Slice.PartMut.{midOf, putMid}
 use borrow.Author.Tests.{ne-eqb, eqb-true, eqb-false}
@@ -14,15 +14,16 @@ use Rattle.blob.specs.Le.{le}
 use Rattle.blob.specs.declared.Verdict.the-variants as verdicts
 use Rattle.blob.specs.Reading.{Outcome, done, refused, choose, run, verdict, values}
 use Rattle.blob.specs.Laws.{fine-value}
+use Rattle.blob.specs.Places.{Each}
 use Rattle.blob.specs.Laid.{flat, laid}
 use Rattle.format.specs.Area as area
-use Rattle.format.specs.Area.{TABLES, DEFINITIONS, EVENTS, ENTRIES, place}
+use Rattle.format.specs.Area.{TABLES, DEFINITIONS, EVENTS, ENTRIES, TEMPLATES, ITEMS, place}
 use Rattle.format.specs.Table.{EVNT, MAPS, TTBL, header-length}
 use Rattle.format.specs.Provider.{Table, Element, tableAt, elementsFrom}
-use Rattle.format.specs.Lists.{lastOf, definitionsIn, eventsIn, mapsIn, templatesIn, mapList}
-use Rattle.format.specs.steps.Needs.{entryCount, placeOf}
+use Rattle.format.specs.Lists.{lastOf, definitionsIn, eventsIn, mapsIn, templatesIn, mapList, itemList}
+use Rattle.format.specs.steps.Needs.{total, placeOf}
 use Rattle.format.specs.steps.Parts.{Counted, Room, TablesRoom, TablesStored, behind, behindAll, tablePart, tableParts}
-use Rattle.format.specs.theorems.Grows.{behindAll-append}
+use Rattle.format.specs.theorems.Grows.{set-same, behindAll-append}
 use Rattle.format.specs.theorems.Stored.{Left, left-room, left-more, tableParts-append, few-before}
 use Rattle.format.specs.declared.Header.{Header}
 use Rattle.element.specs.Kinds.{kept-here, kept-nowhere, keptFrom, kept-more}
@@ -57,38 +58,39 @@ module _ {k at : ℕ} {h : Header} {s : List ℕ} {t : Table} where
   no-templates q (of-templates v ts _ m) = absurd (let z : _≡_ {A = ℕ} 0 1 = cc in omega arith)
   no-templates q (of-definitions a b c ds _ m) = rw m
 
--- a number that is stored where it stands changes nothing
-set-same : (ns : List ℕ) (i : ℕ) → set ns i (getD ns i 0 + 0) ≡ ns
-set-same [] i = refl
-set-same (n ∷ ns) zero = simp add-zero
-set-same (n ∷ ns) (suc i) = ap (λ (l : List ℕ). n ∷ l) (set-same ns i)
-
--- what holds of each list that has entries of tables, and of any other that is taken for that of templates
-by-list : (P : ℕ → Type 0) → P TABLES → P DEFINITIONS → P EVENTS → P area.MAPS → P ENTRIES
-    → ((l : ℕ) → eqb l TABLES ≡ false → eqb l DEFINITIONS ≡ false → eqb l EVENTS ≡ false → eqb l area.MAPS ≡ false → eqb l ENTRIES ≡ false → P l) → (l : ℕ) → P l
-by-list P t d e m n rest l = go (eqb l TABLES) (eqb l DEFINITIONS) (eqb l EVENTS) (eqb l area.MAPS) (eqb l ENTRIES) refl refl refl refl refl
+-- what holds of each of some lists, and of a list that is none of them
+by-list : (P : ℕ → Type 0) (l : ℕ) (ls : List ℕ) → Each P ls → (Each (λ m. eqb l m ≡ false) ls → P l) → P l
+by-list P l [] h rest = rest tt
+by-list P l (m ∷ ls) h rest = go (eqb l m) refl (by-list P l ls (h .1))
   where
-    go : (a b c d' e' : Bool) → eqb l TABLES ≡ a → eqb l DEFINITIONS ≡ b → eqb l EVENTS ≡ c → eqb l area.MAPS ≡ d' → eqb l ENTRIES ≡ e' → P l
-    go true b c x y ea eb ec ed ee = rw (eqb-true l TABLES ea) t
-    go false true c x y ea eb ec ed ee = rw (eqb-true l DEFINITIONS eb) d
-    go false false true x y ea eb ec ed ee = rw (eqb-true l EVENTS ec) e
-    go false false false true y ea eb ec ed ee = rw (eqb-true l area.MAPS ed) m
-    go false false false false true ea eb ec ed ee = rw (eqb-true l ENTRIES ee) n
-    go false false false false false ea eb ec ed ee = rest l ea eb ec ed ee
+    go : (b : Bool) → eqb l m ≡ b → ((Each (λ m. eqb l m ≡ false) ls → P l) → P l) → P l
+    go true e others = rw (eqb-true l m e) (h .0)
+    go false e others = others (λ q. rest (e, q))
 
 module _ (k at : ℕ) (h : Header) (s : List ℕ) (t : Table) (n : ℕ) (before : List ℕ) (e : run (tableAt k at h) s ≡ done t) where
   -- a table whose kind has no entries in a list
   not-here : (l : ℕ) → hasEntries l k ≡ false → (tablePart l n before t ≡ []) × (behind l before t ≡ before)
-  unfolding tablePart flat mapList entryCount
-  not-here =
+  unfolding tablePart flat mapList itemList total
+  not-here l =
       let x = shape k at h s t e in
-      by-list (λ l. hasEntries l k ≡ false → (tablePart l n before t ≡ []) × (behind l before t ≡ before))
-      (λ q. absurd (let z : _≡_ {A = ℕ} 0 1 = cc in omega arith))
-      (λ q. rw (no-definitions q x) (refl, refl))
-      (λ q. rw (no-events q x) (refl, refl))
-      (λ q. rw (no-maps q x) (refl, set-same before (place ENTRIES)))
-      (λ q. rw (no-maps q x) (refl, refl))
-      (λ l a b c d y q. rw (a, b, c, d, y) (rw (no-templates (rw (a, b, c, d, y) at q) x) (refl, refl)))
+      by-list (λ l. hasEntries l k ≡ false → (tablePart l n before t ≡ []) × (behind l before t ≡ before)) l
+      (TABLES ∷ DEFINITIONS ∷ EVENTS ∷ area.MAPS ∷ ENTRIES ∷ ITEMS ∷ [])
+      (
+        (λ q. absurd (let z : _≡_ {A = ℕ} 0 1 = cc in omega arith)),
+        (
+          (λ q. rw (no-definitions q x) (refl, refl)),
+          (
+            (λ q. rw (no-events q x) (refl, refl)),
+            (
+              (λ q. rw (no-maps q x) (refl, set-same before (place ENTRIES))),
+              ((λ q. rw (no-maps q x) (refl, refl)), ((λ q. rw (no-templates q x) (refl, set-same before (place TEMPLATES))), tt)),
+            ),
+          ),
+        ),
+      )
+      (λ f q.
+      rw (f .0, f .1 .0, f .1 .1 .0, f .1 .1 .1 .0, f .1 .1 .1 .1 .0, f .1 .1 .1 .1 .1 .0)
+      (rw (no-templates (rw (f .0, f .1 .0, f .1 .1 .0, f .1 .1 .1 .0, f .1 .1 .1 .1 .0, f .1 .1 .1 .1 .1 .0) at q) x) (refl, refl)))
 
 -- The table of a kind that is kept at a place, by its header's words; none at the place that no blob has.
 abbrev pub headed : List ℕ → ℕ → Header

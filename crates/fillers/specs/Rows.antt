@@ -12,11 +12,11 @@ use Rattle.blob.specs.declared.Refusal.{Refusal}
 use Rattle.blob.specs.Reading.{Outcome, done, refused, choose, run, many, answer}
 use Rattle.blob.specs.Laws.{never, same}
 use Rattle.format.specs.Area as area
-use Rattle.format.specs.Area.{TABLES, DEFINITIONS, EVENTS, ENTRIES, TEMPLATES, of, more}
+use Rattle.format.specs.Area.{TABLES, DEFINITIONS, EVENTS, ENTRIES, TEMPLATES, ITEMS, of, more}
 use Rattle.format.specs.Table.{EVNT, MAPS, TTBL, kindList, header-length, tableEnd}
 use Rattle.format.specs.Definition.{step, definitionsAt}
 use Rattle.format.specs.Event.{eventAt}
-use Rattle.format.specs.Template.{templatesAt}
+use Rattle.format.specs.Template.{Template, templatesAt}
 use Rattle.format.specs.Map.{Mapped, mapsAt}
 use Rattle.format.specs.Provider.{Table, definitions, events, maps, templates, plain, tableAt}
 use Rattle.format.specs.Lists.{rowCount, definitionsIn, eventsIn, mapsIn, templatesIn}
@@ -24,7 +24,6 @@ use Rattle.format.specs.steps.Parts.{tablePart, behind}
 use Rattle.format.specs.declared.Header.{Header}
 use Rattle.format.specs.declared.Definition.{Definition}
 use Rattle.format.specs.declared.Event.{Event}
-use Rattle.format.specs.declared.Template.{Template}
 use Rattle.table.specs.Headers.{end-fits}
 use Rattle.element.specs.Tables.{are-events, are-maps, are-templates, are-definitions, told}
 use Rattle.fillers.specs.declared.Trailing.{Trailing}
@@ -38,7 +37,8 @@ hasEntries l k =
     choose (eqb l DEFINITIONS) (holdsDefinitions k) (
     choose (eqb l EVENTS) (eqb k EVNT) (
     choose (eqb l area.MAPS) (eqb k MAPS) (
-    choose (eqb l ENTRIES) (eqb k MAPS) (eqb k TTBL)))))
+    choose (eqb l ENTRIES) (eqb k MAPS) (
+    choose (eqb l ITEMS) (eqb k TTBL) (eqb k TTBL))))))
 
 -- what is known of a table where it was accepted
 abbrev pub trailingOf : Outcome Table → Trailing

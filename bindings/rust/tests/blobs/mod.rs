@@ -17,6 +17,31 @@ pub fn t_needs() -> Capacities {
         .with(List::Templates, 1)
 }
 
+/// T with an item, whose name is A, and 8 bytes behind the table.
+pub fn u() -> Vec<u8> {
+    let mut u = t();
+    u.resize(152, 0);
+    for (place, value) in [
+        (4, 152),          // CRIM.size
+        (68, 80),          // TTBL.size
+        (80, 68),          // TEMP.size
+        (84, 1),           // item count
+        (88, 1),           // name count
+        (92, 116),         // items offset
+        (132, 136),        // the item's name offset
+        (136, 8),          // the name's size
+        (140, 'A' as u32), // the name, and a zero unit
+    ] {
+        u = with(&u, place, value);
+    }
+    u
+}
+
+/// What that one needs.
+pub fn u_needs() -> Capacities {
+    t_needs().with(List::Items, 1)
+}
+
 /// One provider with something in each list; in the order of the file: the name `Größe 𝄞`, a
 /// CHAN, an EVNT, a KEYW, a MAPS, a TTBL, and an element `What`.
 pub fn rich() -> Vec<u8> {
@@ -32,13 +57,7 @@ pub fn rich() -> Vec<u8> {
     b.words(&[700, 701]);
     let mut elements = Vec::new();
 
-    let name = b.here();
-    let units: Vec<u8> = "Größe 𝄞\0"
-        .encode_utf16()
-        .flat_map(u16::to_le_bytes)
-        .collect();
-    b.words(&[4 + units.len() as u32]);
-    b.0.extend(units);
+    let name = b.name("Größe 𝄞\0");
 
     elements.push(b.signature(b"CHAN"));
     b.words(&[44, 2]);
@@ -78,11 +97,13 @@ pub fn rich() -> Vec<u8> {
     b.signature(b"BMAP");
 
     elements.push(b.signature(b"TTBL"));
-    b.words(&[56, 1]);
+    b.words(&[84, 1]);
     let temp = b.signature(b"TEMP");
-    b.words(&[44, 0, 0, temp + 42, 3]);
+    b.words(&[72, 1, 1, temp + 42, 3]);
     b.0.extend(17..=32); // the template's GUID
-    b.0.extend([0xf, 0x1, 0x1, 0x0]);
+    b.0.extend([0xf, 0x1]);
+    b.words(&[50, 0x0035_3433, 54, 0x0038_0037, temp + 62]);
+    b.name("MΣ\0");
 
     elements.push(b.signature(b"What"));
     b.words(&[9]);
@@ -110,42 +131,75 @@ pub fn rich_needs() -> Capacities {
         .with(List::MapEntries, 2)
         .with(List::Templates, 1)
         .with(List::UnknownElements, 1)
+        .with(List::Items, 1)
 }
 
 /// So many providers that share one WEVT, as T's, with so many templates.
 pub fn shared(providers: u32, templates: u32) -> Vec<u8> {
+    let mut b = sharing(providers, templates);
+    for _ in 0..templates {
+        b.0.extend(&t()[76..]);
+    }
+    b.set(4, b.here());
+    b.0
+}
+
+/// The same with one template, which has so many items without names.
+pub fn shared_items(providers: u32, items: u32) -> Vec<u8> {
+    let mut b = sharing(providers, 1);
+    let temp = b.signature(b"TEMP");
+    b.words(&[40 + 20 * items, items, 0, temp + 40, 0, 0, 0, 0, 0]);
+    b.words(&vec![0; 5 * items as usize]);
+    b.set(4, b.here());
+    b.0
+}
+
+/// The same up to the first TEMP. The TTBL ends where the block does.
+fn sharing(providers: u32, templates: u32) -> Block {
     let mut b = Block(b"CRIM".to_vec());
     let wevt = 16 + 20 * providers;
-    b.words(&[wevt + 40 + 40 * templates, 0, providers]);
+    b.words(&[0, 0, providers]);
     for _ in 0..providers {
         b.words(&[0, 0, 0, 0, wevt]);
     }
     b.signature(b"WEVT");
     b.words(&[0, 0, 1, 0, wevt + 28, 0]);
     b.signature(b"TTBL");
-    b.words(&[12 + 40 * templates, templates]);
-    for _ in 0..templates {
-        b.0.extend(&t()[76..]);
-    }
-    b.0
+    b.words(&[0, templates]);
+    b
 }
 
-struct Block(Vec<u8>);
+/// A block while it is written.
+pub struct Block(pub Vec<u8>);
 
 impl Block {
-    fn here(&self) -> u32 {
+    /// The place of what is written next.
+    pub fn here(&self) -> u32 {
         self.0.len() as u32
     }
 
     /// Gives the place where it stands.
-    fn signature(&mut self, signature: &[u8; 4]) -> u32 {
+    pub fn signature(&mut self, signature: &[u8; 4]) -> u32 {
         let place = self.here();
         self.0.extend(signature);
         place
     }
 
-    fn words(&mut self, values: &[u32]) {
+    pub fn words(&mut self, values: &[u32]) {
         self.0.extend(words(values));
+    }
+
+    pub fn set(&mut self, place: u32, value: u32) {
+        self.0 = with(&self.0, place as usize, value);
+    }
+
+    /// A name of this text, with the zero unit that ends it or without; gives its place.
+    pub fn name(&mut self, text: &str) -> u32 {
+        let place = self.here();
+        let units: Vec<u8> = text.encode_utf16().flat_map(u16::to_le_bytes).collect();
+        self.words(&[4 + units.len() as u32]);
+        self.0.extend(units);
+        place
     }
 }
 

@@ -1,0 +1,67 @@
+//! The items of a template.
+
+use std::fmt;
+
+use crate::entries::Entries;
+use crate::entry::{Item, Template};
+use crate::list::List;
+use crate::words::Source;
+
+/// What a template finds its items by. They are compared and shown as if they stood in it.
+#[derive(Clone, Copy)]
+pub(crate) struct ItemsOf<'a> {
+    /// The template's number.
+    pub template: u32,
+    /// How many items it has.
+    pub count: usize,
+    pub source: Source<'a>,
+}
+
+impl<'a> ItemsOf<'a> {
+    fn find(&self) -> Entries<'a, Item<'a>> {
+        let all = self.source.items;
+        // The items stand by their templates' numbers, which are their first words.
+        let (entries, _) = all.as_chunks::<{ List::Items.words() }>();
+        let first = entries.partition_point(|entry| entry[0] < self.template);
+        Entries::new(all, self.source).part(first..first + self.count)
+    }
+}
+
+impl PartialEq for ItemsOf<'_> {
+    fn eq(&self, other: &Self) -> bool {
+        self.find().eq(other.find())
+    }
+}
+
+impl Eq for ItemsOf<'_> {}
+
+impl fmt::Debug for ItemsOf<'_> {
+    fn fmt(&self, f: &mut fmt::Formatter<'_>) -> fmt::Result {
+        f.debug_list().entries(self.find()).finish()
+    }
+}
+
+impl<'a> Template<'a> {
+    /// Its items, in the order of the block.
+    pub fn items(&self) -> Entries<'a, Item<'a>> {
+        self.items.find()
+    }
+
+    /// Its item of this name; the first one, if there are several. Upper and lower case are not
+    /// the same.
+    ///
+    /// ```
+    /// # let blob = std::fs::read("../../samples/drive.crim")?;
+    /// # let manifest = ducatfeather::read(&blob)?;
+    /// # let template = manifest.templates().nth(3).ok_or("no such template")?;
+    /// let metres = template.item_named("Metres").ok_or("no metres")?;
+    /// // Which of the template's items it is, counted from 0.
+    /// let place = template.items().position(|item| item == metres);
+    /// # assert_eq!(place, Some(2));
+    /// # Ok::<(), Box<dyn std::error::Error>>(())
+    /// ```
+    pub fn item_named(&self, name: &str) -> Option<Item<'a>> {
+        self.items()
+            .find(|item| item.name.is_some_and(|own| own == name))
+    }
+}
