@@ -5,6 +5,7 @@ use std::fmt;
 use crate::entries::Entries;
 use crate::entry::{Item, Template};
 use crate::list::List;
+use crate::parts::{Name, Part};
 use crate::words::Source;
 
 /// What a template finds its items by. They are compared and shown as if they stood in it.
@@ -38,6 +39,30 @@ impl Eq for ItemsOf<'_> {}
 impl fmt::Debug for ItemsOf<'_> {
     fn fmt(&self, f: &mut fmt::Formatter<'_>) -> fmt::Result {
         f.debug_list().entries(self.find()).finish()
+    }
+}
+
+impl Item<'_> {
+    /// Its name, out of the block itself: as the field of this name has it, but for as long as the
+    /// block is lent, not only as long as what was read of it. Nothing if it has none.
+    ///
+    /// ```
+    /// # let blob = std::fs::read("../../samples/drive.crim")?;
+    /// let names: Vec<_> = {
+    ///     let manifest = ducatfeather::read(&blob)?;
+    ///     manifest.items().filter_map(|item| item.name(&blob)).collect()
+    /// };
+    /// assert!(names.iter().any(|name| *name == "Metres"));
+    /// # Ok::<(), Box<dyn std::error::Error>>(())
+    /// ```
+    ///
+    /// Nothing, too, if these bytes are another block, which ends before the name does.
+    pub fn name<'b>(&self, blob: &'b [u8]) -> Option<Name<'b>> {
+        let Part { start, bytes } = self.name?.part;
+        let bytes = blob.get(start as usize..)?.get(..bytes.len())?;
+        Some(Name {
+            part: Part { start, bytes },
+        })
     }
 }
 

@@ -185,6 +185,34 @@ fn absent_and_empty_names() {
 }
 
 #[test]
+fn a_name_out_of_the_block_itself() {
+    let blob = one(&[Some("Metres\0"), None]);
+    let names: Vec<_> = {
+        let manifest = read(&blob).expect("accepted");
+        let items = manifest.items();
+        items
+            .map(|item| (item.name, item.name(&blob)))
+            .for_each(|(own, out)| assert_eq!(own, out));
+        manifest.items().map(|item| item.name(&blob)).collect()
+    };
+    let texts: Vec<_> = names
+        .iter()
+        .map(|name| name.map(|n| n.to_string()))
+        .collect();
+    assert_eq!(texts, [Some("Metres".to_string()), None]);
+    // Of bytes that end before it there is none.
+    let manifest = read(&blob).expect("accepted");
+    let item = manifest.items().next().expect("an item");
+    let end = item.name.expect("a name").part.start as usize + 12;
+    assert_eq!(
+        item.name(&blob[..end]).map(|n| n.to_string()).as_deref(),
+        Some("Metres")
+    );
+    assert_eq!(item.name(&blob[..end - 1]), None);
+    assert_eq!(item.name(&[]), None);
+}
+
+#[test]
 fn names_that_are_not_ascii() {
     let blob = one(&[
         Some("Länge\0"),

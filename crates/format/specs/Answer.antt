@@ -55,7 +55,7 @@ reading bytes words capacities =
     (refused (own 8)))
     (refused (own 7))
 
--- "ten entry counts": the lists' lengths
+-- "ten entry counts", eleven since request 01: the lists' lengths
 abbrev pub counted : List (List Entry) → List ℕ
 counted ls = map (λ l. length l) ls
 
@@ -94,8 +94,8 @@ needing o =
       counts = map capped (answer o .counts);
     }
 
--- "One lent run of 32-bit words holds ten areas, each starting where the one before ends, in this order" (the lists): the words, with
--- each list's entries laid from its area's start on
+-- "One lent run of 32-bit words holds ten areas, each starting where the one before ends, in this order" (the lists; eleven since
+-- request 01): the words, with each list's entries laid from its area's start on
 unfoldable pub filled : List ℕ → ℕ → List Row → List ℕ → List (List Entry) → List ℕ
 filled words at [] cs ls = words
 filled words at (r ∷ rs) [] ls = words

@@ -27,7 +27,7 @@ told lent numbers = choose (eqb (length lent) (length numbers)) numbers lent
 
 -- "`answer` has 15 numbers: code, field, place, first, second, the ten counts; the code is also returned. Ten capacities and 15 numbers
 -- are expected; any other length of either answers 8 (7 still comes first; written to `answer` where that has 15), and nothing else is
--- touched."
+-- touched." Eleven of each and 16 numbers since request 01
 abbrev pub numbers : Answer → List ℕ
 numbers a = a .code ∷ a .field ∷ a .place ∷ a .first ∷ a .second ∷ a .counts
 

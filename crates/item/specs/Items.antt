@@ -11,7 +11,7 @@ use borrow.Author.Tests.{le-leb, lt-leb, leb-true}
 use Rattle.blob.specs.declared.Verdict.the-variants as verdicts
 use Rattle.blob.specs.Le.{le}
 use Rattle.blob.specs.Reading.{Outcome, done, refused, choose, run, then, many, verdict}
-use Rattle.blob.specs.Laws.{same, fine-value, run-bind, run-number, run-got, run-holds, run-fails, many-count}
+use Rattle.blob.specs.Laws.{same, fine-value, run-bind, run-number, run-got, run-holds, run-fails, many-none, many-count}
 use Rattle.blob.specs.Finds.{Finds, finds-got, finds-demand, finds-bind, finds-next}
 use Rattle.format.specs.Field.{template-item-descriptors, template-item-name}
 use Rattle.format.specs.Refuse.{truncated}
@@ -108,3 +108,7 @@ module _ (temp e n offset : ℕ) (s : List ℕ) where
   -- so many as were asked for
   pub items-count : (is : List Item) → run (itemsFrom temp e n offset) s ≡ done is → length is ≡ n
   items-count is h = many-count (itemAt temp e) (step 20) n (itemsStart e offset) s is (sym (items-row (items-fit (ap verdict h))) ∙ h)
+
+  -- where there are none, nothing is refused
+  pub no-items : n ≡ 0 → offset ≤ e → verdict (run (itemsFrom temp e n offset) s) ≡ verdicts.Fine
+  no-items z h = ap verdict (items-row (omega (arith, z, start-fits e offset h))) ∙ many-none (itemAt temp e) (step 20) n (itemsStart e offset) s (omega arith)

@@ -22,7 +22,7 @@ use Rattle.format.specs.Listing.{Piece, templateLine, lines, listing, sixty-fou
 use Rattle.format.specs.theorems.Codes.{refused-code}
 use Rattle.format.specs.theorems.Block.{reading-crim}
 use Rattle.format.specs.declared.Answer.{Answer}
-use Rattle.format.specs.declared.Template.{Template}
+use Rattle.format.specs.Template.{Template}
 use Rattle.areas.specs.Areas.{list-fits}
 use Rattle.listing.specs.Rendered.{characters, newline, line, rendered}
 use Rattle.listing.specs.Put.{Put, refusalLine, blockLine, linesFrom, lent, templates-at, acceptedText}

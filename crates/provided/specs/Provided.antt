@@ -1,11 +1,9 @@
 -- What a filler of a list needs of a provider that is fine, and what it then has stored, list by list.
 use Prim.Native.Nat.{ℕ, _+_, _*_, _≤_}
 use mathlib.Core.Path.{_≡_, refl, ap, ap₂, sym, _∙_, subst}
-use mathlib.Core.Bool.{false}
 use mathlib.Core.List.{List, [], _∷_}
 use native.Mathlib.Omega.{arith}
 use lib.ListN.{length}
-use lib.Dec.{eqb}
 use borrow.Author.Tests.{ne-eqb}
 use Rattle.blob.specs.Le.{le}
 use Rattle.blob.specs.declared.Verdict.the-variants as verdicts
@@ -13,12 +11,12 @@ use Rattle.blob.specs.Reading.{Outcome, done, run, number, many, each, answer, 
 use Rattle.blob.specs.Laid.{laid, flat}
 use Rattle.blob.specs.Laws.{same, fine-value, run-after, many-count, length-flat}
 use Rattle.blob.specs.Finds.{Finds, finds-got, finds-room, finds-demand, finds-next}
-use Rattle.format.specs.Area.{PROVIDERS, DESCRIPTORS, UNKNOWN2, TABLES, MAPS, UNKNOWN, width}
+use Rattle.format.specs.Area.{PROVIDERS, DESCRIPTORS, UNKNOWN2, UNKNOWN, width}
 use Rattle.format.specs.Definition.{guidAt, step}
-use Rattle.format.specs.Provider.{Provider, Element, wevtAt, descriptorAt, elementAt, elementsFrom}
+use Rattle.format.specs.Provider.{Table, Provider, Element, wevtAt, descriptorAt, elementAt, elementsFrom}
 use Rattle.format.specs.Crim.{describedAt}
 use Rattle.format.specs.Lists.{kept, unknowns, descriptorWords, unknown2Words, unknownWords}
-use Rattle.format.specs.steps.Parts.{Room, Stored, part, passed, behindAll, tableParts}
+use Rattle.format.specs.steps.Parts.{Room, Stored, part, passed, behind, behindAll, tableParts}
 use Rattle.format.specs.theorems.Grows.{behindAll-same}
 use Rattle.format.specs.theorems.Described.{Described, described}
 use Rattle.format.specs.declared.Guid.{Guid}
@@ -113,10 +111,10 @@ module _ (at : ℕ) (s : List ℕ) (v : verdict (run (describedAt at) s) ≡ ver
     part-by l = ap (partBy l n before) (provided at s v .1)
 
     -- a list that counts nothing
-    plain : (l : ℕ) (ws : List ℕ) → eqb l TABLES ≡ false → eqb l MAPS ≡ false → part l n before (provided at s v .0) ≡ ws → Filled l ws
-    plain l ws t m e =
+    plain : (l : ℕ) (ws : List ℕ) → ((b : List ℕ) (t : Table) → behind l b t ≡ b) → part l n before (provided at s v .0) ≡ ws → Filled l ws
+    plain l ws same e =
         let p = part-by l ∙ e in
-        let b = ap (passedBy l before) (provided at s v .1) ∙ behindAll-same l t m before (kept (provided at s v .0 .elements)) in (
+        let b = ap (passedBy l before) (provided at s v .1) ∙ behindAll-same l same before (kept (provided at s v .0 .elements)) in (
           λ r. omega (arith, r .fits, ap length p),
           λ k area' c g. record { count = c ∙ sym (ap length p); behind-is = sym b; area-is = g ∙ sym (ap (laid area 0) p) },
         )
@@ -127,25 +125,25 @@ module _ (at : ℕ) (s : List ℕ) (v : verdict (run (describedAt at) s) ≡ ver
     filled-providers g q =
         let x = given in
         let e : provided at s v .0 .guid ≡ g = same _ _ (sym (provided at s v .2 .guid) ∙ q) in
-        plain PROVIDERS _ refl refl (rw (e, x .offset, x .size, x .message, many-count descriptorAt (step 8) _ _ s _ (x .descriptors), many-count (number 4) (step 4) _ _ s _ (x .unknown2)) refl)
+        plain PROVIDERS _ (λ b t. refl) (rw (e, x .offset, x .size, x .message, many-count descriptorAt (step 8) _ _ s _ (x .descriptors), many-count (number 4) (step 4) _ _ s _ (x .unknown2)) refl)
 
     pub filled-descriptors : Filled DESCRIPTORS (flat descriptorWords (values (run (many descriptorAt (step 8) (h .descriptors) (le 4 s (at + 16) + 20)) s)))
         × (length (flat descriptorWords (values (run (many descriptorAt (step 8) (h .descriptors) (le 4 s (at + 16) + 20)) s))) ≡ width DESCRIPTORS * h .descriptors)
     unfolding part
     filled-descriptors =
         let x = given in
-        rw (x .descriptors) (plain DESCRIPTORS _ refl refl refl, length-flat descriptorWords (width DESCRIPTORS) (λ d. refl) (provided at s v .0 .descriptors) ∙ ap (λ m. width DESCRIPTORS * m) (many-count descriptorAt (step 8) _ _ s _ (x .descriptors)))
+        rw (x .descriptors) (plain DESCRIPTORS _ (λ b t. refl) refl, length-flat descriptorWords (width DESCRIPTORS) (λ d. refl) (provided at s v .0 .descriptors) ∙ ap (λ m. width DESCRIPTORS * m) (many-count descriptorAt (step 8) _ _ s _ (x .descriptors)))
 
     pub filled-unknown2 : Filled UNKNOWN2 (flat unknown2Words (values (run (many (number 4) (step 4) (h .unknown2) (le 4 s (at + 16) + 20 + 8 * h .descriptors)) s)))
         × (length (flat unknown2Words (values (run (many (number 4) (step 4) (h .unknown2) (le 4 s (at + 16) + 20 + 8 * h .descriptors)) s))) ≡ width UNKNOWN2 * h .unknown2)
     unfolding part
     filled-unknown2 =
         let x = given in
-        rw (x .unknown2) (plain UNKNOWN2 _ refl refl refl, length-flat unknown2Words (width UNKNOWN2) (λ d. refl) (provided at s v .0 .unknown2) ∙ ap (λ m. width UNKNOWN2 * m) (many-count (number 4) (step 4) _ _ s _ (x .unknown2)))
+        rw (x .unknown2) (plain UNKNOWN2 _ (λ b t. refl) refl, length-flat unknown2Words (width UNKNOWN2) (λ d. refl) (provided at s v .0 .unknown2) ∙ ap (λ m. width UNKNOWN2 * m) (many-count (number 4) (step 4) _ _ s _ (x .unknown2)))
 
     pub filled-unknown : Filled UNKNOWN (flat (unknownWords n) (unknowns elements)) × (length (flat (unknownWords n) (unknowns elements)) ≡ width UNKNOWN * length (unknowns elements))
     unfolding part
-    filled-unknown = let x = given in rw (x .elements) (plain UNKNOWN _ refl refl refl, length-flat (unknownWords n) (width UNKNOWN) (λ u. refl) (unknowns (provided at s v .0 .elements)))
+    filled-unknown = let x = given in rw (x .elements) (plain UNKNOWN _ (λ b t. refl) refl, length-flat (unknownWords n) (width UNKNOWN) (λ u. refl) (unknowns (provided at s v .0 .elements)))
 
     -- a list that goes over the tables
     pub filled-tables : (l : ℕ) → (l ≡ PROVIDERS → ⊥) → (l ≡ DESCRIPTORS → ⊥) → (l ≡ UNKNOWN2 → ⊥) → (l ≡ UNKNOWN → ⊥)

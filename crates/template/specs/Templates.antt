@@ -1,6 +1,6 @@
 -- TEMPs one after another: the first of those that are fine, how many turns they take, and what the region's end makes of all.
 use Prim.{Unit, tt}
-use Prim.Native.Nat.{ℕ, suc, _+_, _-_, _*_, _<_}
+use Prim.Native.Nat.{ℕ, suc, _+_, _-_, _*_, _≤_, _<_}
 use mathlib.Core.Path.{_≡_, refl, ap, sym, _∙_}
 use mathlib.Core.List.{List, map}
 use mathlib.Core.Bool.{Bool, true, false}
@@ -21,6 +21,7 @@ use Rattle.format.specs.Template.{Template, templateAt, next, templatesAt}
 use Rattle.format.specs.Area.{ITEMS, width}
 use Rattle.format.specs.Lists.{itemWords, itemList}
 use Rattle.format.specs.steps.Needs.{total, itemCount}
+use Rattle.format.specs.theorems.Ends.{region-bounds}
 use Rattle.format.specs.theorems.Until.{template-until, region-told, region-refused}
 use Rattle.format.specs.declared.EndRead.the-variants as ends
 use Rattle.format.specs.declared.Header.{Header}
@@ -84,3 +85,14 @@ module _ (at : ℕ) (h : Header) (s : List ℕ) where
       → run (templatesAt at h) s ≡ refused x
   unfolding templatesAt
   templates-refused x g = region-refused _ _ s x g
+
+-- a region's end, with its TEMPs those of the table
+pub record Ends (at : ℕ) (h : Header) (s : List ℕ) (e : ℕ) : Type 0 where
+  pub behind : at + 12 ≤ e
+  pub inside : e ≤ length s
+  pub told : run (templatesAt at h) s ≡ run (many (templateAt (until e)) next (h .count) (at + 12)) s
+
+pub ends-there : (at : ℕ) (h : Header) (s : List ℕ) (e : ℕ) → at + 12 ≤ length s → ends.End e ≡ endRead (end (length s)) (run (regionAt (table-size TTBL) at (h .size) 12) s) → Ends at h s e
+ends-there at h s e w g =
+    let b = region-bounds _ _ _ 12 _ w _ g in
+    record { behind = b .0; inside = b .1; told = templates-told at h s e g }

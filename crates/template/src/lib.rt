@@ -13,6 +13,7 @@ ghost use Rattle.format.specs.Item.{Item};
 ghost use Rattle.format.specs.Lists.{templateWords, itemList};
 ghost use Rattle.format.specs.steps.Needs.{itemCount, templatesRead};
 ghost use Rattle.template.specs.Temp.{binxmlLength, templateOf};
+ghost use Rattle.template.specs.Templates.{Ends};
 use blob::Verdict;
 use format::BlobPlace;
 use format::EndRead;
@@ -81,6 +82,10 @@ fn check_fields(b: &[u8], at: usize, size: u32) -> Verdict
     let found = items_at(b, size, items_of(BlobPlace(temp), size, BlobPlace(offset)));
     if let Verdict::Refused(r) = found {
         return Verdict::Refused(r);
+    }
+    // Most TEMPs of some blocks have no items: for them the call is half of what there is to do.
+    if descriptors == 0 {
+        return Verdict::Fine;
     }
     item::check(b, temp, at + size as usize, descriptors, offset)
 }
@@ -211,6 +216,18 @@ fn fill_until(b: &[u8], end: usize, start: usize, n: u32, area: &mut [u32])
     }
 }
 
+// Where the region of a TTBL ends that `check` found fine.
+fn region_of(b: &[u8], at: usize, h: Header) -> usize
+    requires { ⌜ (at + 12 ≤ length (now b)) × (length (now b) ≤ 16777216) ⌝ }
+    requires { ⌜ verdict (run (templatesAt at h) (now b)) ≡ Verdict.Fine ⌝ }
+    ensures { λ r. ⌜ Ends at h (now (b .entry)) r ⌝ }
+{
+    match bounds::region_end(b, TTBL_SIZE, at, h.size, 12) {
+        EndRead::Refused(_) => 0,
+        EndRead::End(end) => end,
+    }
+}
+
 // Stores the words of the TEMPs of a TTBL that `check` found fine.
 pub fn fill(b: &[u8], at: usize, h: Header, area: &mut [u32])
     requires { ⌜ (at + 12 ≤ length (now b)) × (length (now b) ≤ 16777216) ⌝ }
@@ -218,10 +235,7 @@ pub fn fill(b: &[u8], at: usize, h: Header, area: &mut [u32])
     requires { ⌜ verdict (run (templatesAt at h) (now b)) ≡ Verdict.Fine ⌝ }
     ensures { λ _. ⌜ now (area .exit) ≡ laid (now (area .entry)) 0 (flat templateWords (values (run (templatesAt at h) (now (b .entry))))) ⌝ }
 {
-    let EndRead::End(end) = bounds::region_end(b, TTBL_SIZE, at, h.size, 12) else {
-        return;
-    };
-    fill_until(b, end, at + 12, h.count, area);
+    fill_until(b, region_of(b, at, h), at + 12, h.count, area);
 }
 
 // Stores the words of the items of n TEMPs that `check_until` found fine, the first of which is the template with a number; hands back how
@@ -257,8 +271,5 @@ pub fn fill_items(b: &[u8], at: usize, h: Header, first: u32, area: &mut [u32]) 
     ensures { λ r. ⌜ r ≡ width ITEMS * itemCount (values (run (templatesAt at h) (now (b .entry)))) ⌝ }
     ensures { λ _. ⌜ now (area .exit) ≡ laid (now (area .entry)) 0 (flat (λ e. e) (itemList first (values (run (templatesAt at h) (now (b .entry)))))) ⌝ }
 {
-    let EndRead::End(end) = bounds::region_end(b, TTBL_SIZE, at, h.size, 12) else {
-        return 0;
-    };
-    fill_items_until(b, end, at + 12, h.count, first, area)
+    fill_items_until(b, region_of(b, at, h), at + 12, h.count, first, area)
 }

@@ -108,6 +108,8 @@ table =
     -- "`U[84]=2`: 1 at 116, 40, 28. `U[92]=0`: 1 at 144, 20, 0."
     ∷ record { bytes = U 2 116 0 136 8; row = refusal 1 137 116 40 28 }
     ∷ record { bytes = U 1 0 0 136 8; row = refusal 1 137 144 20 0 }
+    -- the array as a whole before any name
+    ∷ record { bytes = U 2 116 0 75 8; row = refusal 1 137 116 40 28 }
     -- "`U[132]=75`: 5 at 75, 152. `U[132]=100` with a sound name there is accepted"
     ∷ record { bytes = U 1 116 0 75 8; row = refusal 5 146 75 152 0 }
     ∷ record { bytes = U 1 116 4 100 8; row = with-item 4 100 104 0 }

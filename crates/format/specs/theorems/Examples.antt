@@ -1,17 +1,21 @@
--- Computed examples of what the proved cases do not reach: the lent words after a reading, 9, replaced tables, both lookups, the handle.
+-- Computed examples of what the proved cases do not reach: the lent words after a reading, 9, replaced tables, the fields of an
+-- item, both lookups, the handle.
 use Prim.Native.Nat.{ℕ}
 use mathlib.Core.Path.{_≡_, refl}
 use mathlib.Core.Bool.{true, false}
 use mathlib.Core.List.{List, [], _∷_, _++_, map}
 use lib.ListN.{length, replicate}
-use Rattle.blob.specs.Reading.{Outcome, done, refused}
+use Rattle.blob.specs.Reading.{Outcome, done, refused, demand, run, _>>=_, number}
 use Rattle.blob.specs.Laid.{laid, flat}
 use Rattle.format.specs.Table.{CHAN, LEVL}
 use Rattle.format.specs.Entry.{TABLE-FIRST}
+use Rattle.format.specs.Name.{nameAt, absent}
+use Rattle.format.specs.Item.{Item, itemNameAt, itemAt}
+use Rattle.format.specs.Template.{Template}
 use Rattle.format.specs.Map.{Mapped}
 use Rattle.format.specs.Provider.{Rows, definitions, events, maps, templates, Element, table, unknown}
 use Rattle.format.specs.Area.{PROVIDERS, TABLES, EVENTS, MAPS, TEMPLATES, GUIDS, rows, none, more}
-use Rattle.format.specs.Lists.{Entry, Owned, lastOf, kept, mapList, tableEntries}
+use Rattle.format.specs.Lists.{Entry, Owned, lastOf, kept, mapList, itemWords, itemList, tableEntries}
 use Rattle.format.specs.Answer.{areas, filled, moderate, own, too-small, with-room}
 use Rattle.format.specs.Lookup.{alike, among, byKey, byOffset, counts-fit, entriesFrom, guidsHeld, guidsOf, once, position, select, tableFits, tablesFit, wordOf}
 use Rattle.format.specs.Handle.{shown}
@@ -63,6 +67,25 @@ first-entries : map (wordOf TABLE-FIRST) (tableEntries none (
     ≡ 0 ∷ 0 ∷ 1 ∷ 2 ∷ 0 ∷ []
 unfolding tableEntries
 first-entries = refl
+
+-- an item's fields, each at its place and each in its word; and of which template it is one
+abbrev an-item : Item
+an-item = record { unknown1 = 1; input = 2; output = 3; unknown3 = 4; unknown4 = 5; count = 6; length = 7; offset = 0; name = absent }
+
+item-fields : run (itemAt 0 20 0) (1 ∷ 0 ∷ 0 ∷ 0 ∷ 2 ∷ 3 ∷ 4 ∷ 0 ∷ 5 ∷ 0 ∷ 0 ∷ 0 ∷ 6 ∷ 0 ∷ 7 ∷ 0 ∷ 0 ∷ 0 ∷ 0 ∷ 0 ∷ []) ≡ done an-item
+unfolding run _>>=_ number demand itemAt itemNameAt nameAt
+item-fields = refl
+
+item-words : itemWords 9 an-item ≡ 9 ∷ 1 ∷ 770 ∷ 4 ∷ 5 ∷ 458758 ∷ 0 ∷ 0 ∷ 0 ∷ []
+item-words = refl
+
+abbrev a-template : List Item → Template
+a-template is =
+    record { offset = 0; size = 0; descriptors = 0; names = 0; items-offset = 0; event = 0; guid = record { a = 0; b = 0; c = 0; d = 0 }; start = 0; length = 0; items = is }
+
+item-templates : map (wordOf 0) (itemList 5 (a-template (an-item ∷ an-item ∷ []) ∷ a-template [] ∷ a-template (an-item ∷ []) ∷ [])) ≡ 5 ∷ 5 ∷ 7 ∷ []
+unfolding itemList
+item-templates = refl
 
 first-map-entries : map (wordOf 7) (mapList 5 (
     a-map 1 (record { identifier = 1; message = 2 } ∷ record { identifier = 3; message = 4 } ∷ []) ∷ a-map 2 [] ∷ a-map 1 [] ∷ []))

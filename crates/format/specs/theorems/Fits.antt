@@ -223,7 +223,7 @@ module _ (ps : List Provider) (f : Few (counted (lists ps))) where
           rw (eqb-true l MAPS g)
           (few-counted MAPS ENTRIES entriesIn (λ b t. ap (λ n. so-many-more ENTRIES n b) (total-length (λ m. m .entries) (mapsIn (t .rows)))) (omega arith) refl)
       go false false true e g h = rw (eqb-true l ITEMS h) (few-counted ITEMS TEMPLATES templatesIn (λ b t. refl) (omega arith) refl)
-      go false false false e g h = rw (behindAll-same l e g h none (tables ps)) (none-few-all rows)
+      go false false false e g h = rw (behindAll-same l (λ b t. rw (e, g, h)) none (tables ps)) (none-few-all rows)
 
   -- what is written in each list behind all providers
   pub list-few : (i : ℕ) → i < length rows → Counted (passedAll (number i) none ps)

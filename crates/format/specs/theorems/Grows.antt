@@ -1,5 +1,4 @@
--- What is written in each list behind some tables and providers: only lists 4, 7 and 12 count, there are as many numbers as before,
--- and none is less.
+-- What is written in each list behind some tables and providers: there are as many numbers as before, and none is less.
 use Prim.Native.Nat.{ℕ, zero, suc, _+_, _≤_}
 use mathlib.Core.Path.{_≡_, refl, ap, sym, _∙_}
 use mathlib.Core.List.{List, [], _∷_, _++_}
@@ -25,11 +24,11 @@ unfolding behindAll
 behindAll-append l before [] us = refl
 behindAll-append l before (t ∷ ts) us = behindAll-append l _ ts us
 
--- only lists 4, 7 and 12 count
-pub behindAll-same : (l : ℕ) → eqb l TABLES ≡ false → eqb l MAPS ≡ false → eqb l ITEMS ≡ false → (before : List ℕ) (ts : List Table) → behindAll l before ts ≡ before
+-- a list that counts nothing
+pub behindAll-same : (l : ℕ) → ((b : List ℕ) (t : Table) → behind l b t ≡ b) → (before : List ℕ) (ts : List Table) → behindAll l before ts ≡ before
 unfolding behindAll
-behindAll-same l g h i before [] = refl
-behindAll-same l g h i before (t ∷ ts) = rw (g, h, i) (behindAll-same l g h i before ts)
+behindAll-same l same before [] = refl
+behindAll-same l same before (t ∷ ts) = ap (λ (b : List ℕ). behindAll l b ts) (same before t) ∙ behindAll-same l same before ts
 
 -- there are as many numbers as before
 behind-length : (l : ℕ) (before : List ℕ) (t : Table) → length (behind l before t) ≡ length before

@@ -1,38 +1,21 @@
--- A table that was found fine has a region, whose TEMPs are those of the table (Templates).
+-- The table's TEMPs are those of its region.
 use mathlib.Core.Path.{ap, sym, _∙_}
-use native.Mathlib.Omega.{arith}
 use borrow.Author.Needs.{needs}
 use Rattle.blob.specs.Reading.{verdict}
-use Rattle.blob.specs.Laws.{not-fine}
-use Rattle.format.specs.theorems.Ends.{region-bounds}
-use Rattle.template.specs.Templates.{templates-told, templates-refused}
 use Rattle.template.proofs.fill.Statement.{statement}
 use Rattle.template.proofs.fill.Tie as tie
 
-returns : tie.Need-returns
-returns c =
-    let r = c .before .before in
-    let stop = ap verdict (templates-refused _ _ _ _ (sym (c .enum-told .given .1) ∙ r .region-end .ensures)) in
-    absurd (not-fine _ (sym stop ∙ r .before .before .before .pre .1 .1))
-
 fill-until-requires : tie.Need-fill-until-requires
 fill-until-requires c κs =
-    let e = c .before .before in
-    let r = e .before .before in
-    let pre = r .before .before .before .pre in
-    let told = sym (e .end .given .1) ∙ r .region-end .ensures in
-    let b = region-bounds _ _ _ 12 _ (pre .0 .0) _ told in
-    (omega arith, (pre .1 .0, sym (ap verdict (templates-told _ _ _ _ told)) ∙ pre .1 .1))
+    let r = c .before in
+    let o = r .before .before .before in
+    let e = r .region-of .ensures in
+    ((e .behind, e .inside, o .pre .0 .1), (o .pre .1 .0, sym (ap verdict (e .told)) ∙ o .pre .1 .1))
 
-returns-2 : tie.Need-returns-2
-returns-2 c =
+returns : tie.Need-returns
+returns c =
     let f = c .before .before in
-    let e = f .before .before .before in
-    let r = e .before .before in
-    let told = sym (e .end .given .1) ∙ r .region-end .ensures in
-    f .fill-until .ensures ∙ rw (templates-told _ (r .before .before .before .args .h) _ _ told)
+    rw (f .before .before .region-of .ensures .told) (f .fill-until .ensures)
 
 pub fill-spec : {M : Type 1} → statement M
-fill-spec =
-    tie.close (
-    tie.spec (λ c κs. search needs) (λ c. search needs) (λ c. search needs) returns (λ c. search needs) fill-until-requires (λ c. search needs) returns-2)
+fill-spec = tie.close (tie.spec (λ c κs. search needs) (λ c. search needs) fill-until-requires (λ c. search needs) returns)
