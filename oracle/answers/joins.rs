@@ -2,9 +2,9 @@
 
 use std::collections::{BTreeMap, BTreeSet, HashMap};
 
-use original::wevt_templates::manifest::CrimManifest;
+use ::amended::wevt_templates::manifest::CrimManifest;
 
-use crate::guid;
+use crate::amended::convert::guid;
 
 /// A provider's GUID (4 words), identifier, version, channel, level, opcode, task, keywords low,
 /// high.

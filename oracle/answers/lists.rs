@@ -14,6 +14,7 @@ pub const MAPS: u32 = 7;
 pub const MAP_ENTRIES: u32 = 8;
 pub const TEMPLATES: u32 = 9;
 pub const UNKNOWN_ELEMENTS: u32 = 10;
+pub const ITEMS: u32 = 12;
 
 /// The list that a lookup by key fills. It has a number, but no row: no answer to a blob has it.
 pub const GUIDS: u32 = 11;
@@ -37,6 +38,7 @@ pub const ROWS: &[Row] = &[
     row(MAP_ENTRIES, 2),
     row(TEMPLATES, 12),
     row(UNKNOWN_ELEMENTS, 4),
+    row(ITEMS, 9),
 ];
 
 /// How many lists there are.

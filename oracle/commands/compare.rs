@@ -1,5 +1,8 @@
 //! compare COUNT SEED JOBS: generated blobs through the original and through the library.
 //!
+//! What the library must answer is what the amended original answers. What the original itself
+//! answers is that too, or else one of the cases of docs/DIFFERENCES.md, of which each is counted.
+//!
 //! Of each blob it is asked what it needs, and it is read several times, with memory lent in
 //! different ways. Compared are all numbers of the answers and every lent word: those that must be
 //! written, and those that must be kept.
@@ -15,7 +18,9 @@ use std::process::ExitCode;
 use std::sync::atomic::{AtomicBool, AtomicU64, Ordering::Relaxed};
 use std::thread;
 
-use answers::lists::{EVENTS, MAP_ENTRIES, UNKNOWN2, row_of};
+use answers::differences;
+use answers::lists::{EVENTS, ITEMS, LISTS, MAP_ENTRIES, ROWS, UNKNOWN2, row_of};
+use answers::tally::Tally;
 use answers::{Answer, answer};
 use ducatfeather::raw;
 use generator::known::{self, Shared};
@@ -25,6 +30,9 @@ use lending::{COUNTS, Lending, NUMBERS, Numbers, Reader};
 
 /// How many large blobs there are, whatever the count.
 const LARGE: u64 = 64;
+
+/// Among so many blobs each case and each list's shortage must come.
+const ENOUGH: u64 = 20_000;
 
 /// Of so many blobs one more is made for joins; and some large ones, whatever the count.
 const PER_JOINED: u64 = 4;
@@ -66,6 +74,7 @@ fn main() -> ExitCode {
         total.by_code[8],
         total.by_code[9]
     );
+    print!("{}", total.tally);
     let joins = &total.joins;
     println!(
         "joins in these, in {} blobs made for joins and in {LARGE_JOINED} large ones: {} blobs with \
@@ -85,7 +94,14 @@ fn main() -> ExitCode {
         joins.by_code[9],
         joins.by_code[10]
     );
-    ExitCode::SUCCESS
+    let missing = total.missing();
+    if count < ENOUGH || missing.is_empty() {
+        return ExitCode::SUCCESS;
+    }
+    for what in missing {
+        eprintln!("never came: {what}");
+    }
+    ExitCode::FAILURE
 }
 
 struct Run {
@@ -104,6 +120,9 @@ struct Totals {
     asked: u64,
     readings: u64,
     by_code: [u64; 10],
+    /// How often each list was too small.
+    short: [u64; LISTS],
+    tally: Tally,
     joins: joining::Totals,
 }
 
@@ -113,11 +132,22 @@ impl Totals {
         self.refused += other.refused;
         self.asked += other.asked;
         self.readings += other.readings;
-        for (mine, theirs) in self.by_code.iter_mut().zip(other.by_code) {
-            *mine += theirs;
-        }
+        let mine = self.by_code.iter_mut().chain(&mut self.short);
+        let theirs = other.by_code.iter().chain(&other.short);
+        mine.zip(theirs).for_each(|(mine, theirs)| *mine += theirs);
+        self.tally.add(&other.tally);
         self.joins.add(&other.joins);
         self
+    }
+
+    /// What should have come and didn't.
+    fn missing(&self) -> Vec<String> {
+        let cases = self.tally.missing().into_iter();
+        let short = ROWS.iter().zip(self.short).filter(|(_, times)| *times == 0);
+        cases
+            .map(|case| case.to_string())
+            .chain(short.map(|(row, _)| format!("list {} too small", row.number)))
+            .collect()
     }
 }
 
@@ -225,7 +255,10 @@ impl Worker {
 
     fn compare(&mut self, seed: u64, source: Source) -> Result<(), String> {
         let (blob, mut rng) = source.blob(seed);
-        let found = answer(&blob);
+        let compared = differences::compare(&blob);
+        let compared = compared.map_err(|difference| format!("{difference}{}", shown(&blob)))?;
+        self.totals.tally.count(&compared);
+        let found = compared.answer;
         let (is_large, index) = match source {
             Source::Any(index) => (false, index),
             Source::Large(index) => (true, index),
@@ -308,6 +341,9 @@ impl Worker {
         let read = self.reader.read(blob, lending, &expected, &found.lists);
         self.totals.readings += 1;
         self.totals.by_code[expected[0] as usize] += 1;
+        if expected[0] == 9 {
+            self.totals.short[row_of(expected[3] as u32)] += 1;
+        }
         read.map_err(|difference| format!("{difference}{}", shown(blob)))
     }
 }
@@ -320,6 +356,7 @@ fn past_32_bits() -> Result<(), String> {
         (Shared::Unknown2, UNKNOWN2),
         (Shared::Events, EVENTS),
         (Shared::MapEntries, MAP_ENTRIES),
+        (Shared::Items, ITEMS),
     ] {
         let blob = known::shared(65_536, 65_537, what);
         let mut expected: Numbers = [0; NUMBERS];

@@ -1,10 +1,22 @@
-//! oracle: blobs from standard input, the original's answers to standard output.
+//! oracle [--original]: blobs from standard input, the answers to standard output: those that the port
+//! must give, or the original's own.
 
 use std::io::{self, BufReader, BufWriter, Write};
 use std::process::ExitCode;
 
+use answers::Answer;
+
 fn main() -> ExitCode {
-    match run() {
+    let mut arguments = std::env::args().skip(1);
+    let answer = match (arguments.next().as_deref(), arguments.next()) {
+        (None, _) => answers::answer,
+        (Some("--original"), None) => answers::original,
+        _ => {
+            eprintln!("usage: oracle [--original]");
+            return ExitCode::from(2);
+        }
+    };
+    match run(answer) {
         Ok(()) => ExitCode::SUCCESS,
         Err(error) => {
             eprintln!("oracle: {error}");
@@ -13,11 +25,11 @@ fn main() -> ExitCode {
     }
 }
 
-fn run() -> io::Result<()> {
+fn run(answer: fn(&[u8]) -> Answer) -> io::Result<()> {
     let mut input = BufReader::new(io::stdin().lock());
     let mut output = BufWriter::new(io::stdout().lock());
     while let Some(blob) = frames::read(&mut input)? {
-        write!(output, "{}", answers::answer(&blob))?;
+        write!(output, "{}", answer(&blob))?;
     }
     output.flush()
 }

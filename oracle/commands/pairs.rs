@@ -1,10 +1,13 @@
-//! pairs COUNT SEED: which pairs of code and field the generator's blobs reach,
-//! held against the pairs that docs/FIELDS.md promises.
+//! pairs COUNT SEED: which pairs of code and field the generator's blobs reach, held against the
+//! pairs that docs/FIELDS.md promises; and in which of the cases of docs/DIFFERENCES.md the original
+//! answers them otherwise.
 
 use std::collections::BTreeMap;
 use std::process::ExitCode;
 
-use answers::{answer, fields, fields::Pair};
+use answers::differences;
+use answers::tally::Tally;
+use answers::{fields, fields::Pair};
 use generator::Rng;
 
 fn main() -> ExitCode {
@@ -15,13 +18,22 @@ fn main() -> ExitCode {
     };
 
     let mut reached: BTreeMap<Pair, u64> = BTreeMap::new();
+    let mut tally = Tally::default();
     for index in 0..count {
         let blob = generator::blob(&mut Rng::new(seed, index), generator::DAMAGED);
-        let Ok(answer) = std::panic::catch_unwind(|| answer(&blob)) else {
-            eprintln!("no answer to blob {index} of seed {seed}: {}", hex(&blob));
-            return ExitCode::FAILURE;
+        let compared = std::panic::catch_unwind(|| differences::compare(&blob));
+        let fault = match compared {
+            Ok(Ok(compared)) => {
+                let answer = &compared.answer;
+                *reached.entry((answer.code, answer.field)).or_default() += 1;
+                tally.count(&compared);
+                continue;
+            }
+            Ok(Err(difference)) => difference,
+            Err(_) => "no answer".into(),
         };
-        *reached.entry((answer.code, answer.field)).or_default() += 1;
+        eprintln!("blob {index} of seed {seed}: {fault}\n{}", hex(&blob));
+        return ExitCode::FAILURE;
     }
 
     let accepted = reached.get(&(0, 0)).copied().unwrap_or(0);
@@ -30,6 +42,7 @@ fn main() -> ExitCode {
     for (&(code, field), times) in &reached {
         println!("code {code} field {field}: {times}{}", text(field));
     }
+    print!("{tally}");
 
     let promised = fields::promised();
     let unreached: Vec<Pair> = promised
@@ -41,8 +54,12 @@ fn main() -> ExitCode {
         .into_keys()
         .filter(|pair| !promised.contains(pair))
         .collect();
+    let uncounted = tally.missing();
     if 2 * accepted < count {
         println!("under half of the blobs are accepted");
+    }
+    for case in &uncounted {
+        println!("never came: {case}");
     }
     if !unpromised.is_empty() {
         println!("not promised:{}", listed(&unpromised));
@@ -52,7 +69,8 @@ fn main() -> ExitCode {
     } else {
         println!("missing:{}", listed(&unreached));
     }
-    if unreached.is_empty() && unpromised.is_empty() && 2 * accepted >= count {
+    let all = unreached.is_empty() && unpromised.is_empty() && uncounted.is_empty();
+    if all && 2 * accepted >= count {
         ExitCode::SUCCESS
     } else {
         ExitCode::FAILURE

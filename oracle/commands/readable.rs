@@ -3,7 +3,7 @@
 //! that has entries.
 //!
 //! The blobs are the cases of docs/FORMAT.md, for each pair of code and field the shortest generated
-//! one that has it, an accepted one with entries in every list, and some whose lent memory doesn't do.
+//! one that has it, some accepted ones that are special, and some whose lent memory doesn't do.
 //! A record has `RECORD` bytes: 32-bit little-endian numbers (the lengths of the name and of the
 //! blob, a capacity for each list), the name and the blob, each with zeros behind it up to its room.
 
@@ -11,12 +11,15 @@ use std::collections::BTreeMap;
 use std::path::PathBuf;
 use std::process::ExitCode;
 
-use answers::lists::{LISTS, PROVIDERS, ROWS, TEMPLATES, UNKNOWN_ELEMENTS, UNKNOWN2, row_of};
+use answers::lists::{
+    DESCRIPTORS, ITEMS, LISTS, PROVIDERS, ROWS, TABLES, TEMPLATES, UNKNOWN_ELEMENTS, UNKNOWN2,
+    row_of,
+};
 use answers::{Answer, answer, fields, fields::Pair};
 use generator::{Rng, known};
 
 /// How many generated blobs are looked at.
-const LOOKED_AT: u64 = 200_000;
+const LOOKED_AT: u64 = 1_000_000;
 
 /// The bytes of the two lengths and the capacities, and the room for a name and for a blob.
 const NUMBERS: usize = 4 * (2 + LISTS);
@@ -72,9 +75,9 @@ fn main() -> ExitCode {
 fn cases(seed: u64) -> Option<Vec<Case>> {
     let named = known::cases().into_iter();
     let mut cases: Vec<Case> = named
-        .map(|(name, blob)| original(name.into(), blob))
+        .map(|(name, blob)| answered(name.into(), blob))
         .collect();
-    let (shortest, full) = generated(seed);
+    let (shortest, special) = generated(seed);
     for pair in fields::promised() {
         // Z is the shortest of those that are accepted.
         if pair == (0, 0) {
@@ -84,19 +87,66 @@ fn cases(seed: u64) -> Option<Vec<Case>> {
             eprintln!("no blob of at most {BLOB} bytes has the pair {pair:?}");
             return None;
         };
-        cases.push(original(name(pair), blob.clone()));
+        cases.push(answered(name(pair), blob.clone()));
     }
-    let Some(full) = full else {
-        eprintln!("no accepted blob of at most {BLOB} bytes has entries in every list");
-        return None;
-    };
-    cases.push(original("entries in every list".into(), full));
+    for (Special { name, .. }, blob) in SPECIAL.iter().zip(special) {
+        let Some(blob) = blob else {
+            eprintln!("no accepted blob of at most {BLOB} bytes has {name}");
+            return None;
+        };
+        cases.push(answered((*name).into(), blob));
+    }
     cases.extend(own());
     Some(cases)
 }
 
-/// A blob that the original answers.
-fn original(name: String, blob: Vec<u8>) -> Case {
+/// What an accepted blob may have.
+struct Special {
+    name: &'static str,
+    has: fn(&[u8], &Answer) -> bool,
+}
+
+const SPECIAL: [Special; 3] = [
+    Special {
+        name: "entries in every list",
+        has: |_, answer| !answer.counts().contains(&0),
+    },
+    Special {
+        name: "items of two providers",
+        has: |_, answer| items_of_two_tables(answer),
+    },
+    Special {
+        name: "items of a table that is replaced",
+        has: items_replaced,
+    },
+];
+
+fn items_of_two_tables(answer: &Answer) -> bool {
+    let tables = answer.entries(TABLES).filter(|table| table[1] == 8);
+    let with_items = tables.filter(|table| {
+        let templates = table[5]..table[5] + table[6];
+        let mut items = answer.entries(ITEMS);
+        items.any(|item| templates.contains(&item[0]))
+    });
+    with_items.count() > 1
+}
+
+/// Whether some items are listed, and a TTBL that isn't has some in its first TEMP.
+fn items_replaced(blob: &[u8], answer: &Answer) -> bool {
+    let replaced = |at: u32| answer.entries(TABLES).all(|table| table[2] != at);
+    // How many TEMPs it has, and how many items the first of them.
+    let has_items = |at: u32| {
+        let ttbl = &blob[at as usize..];
+        ttbl[8..12] != [0; 4] && ttbl[20..24] != [0; 4]
+    };
+    let ttbl = u32::from_le_bytes(*b"TTBL");
+    let mut named = answer.entries(DESCRIPTORS).filter(|named| named[2] == ttbl);
+    answer.entries(ITEMS).next().is_some()
+        && named.any(|named| replaced(named[0]) && has_items(named[0]))
+}
+
+/// A blob with the answer to it.
+fn answered(name: String, blob: Vec<u8>) -> Case {
     Case {
         expected: answer(&blob),
         name,
@@ -115,10 +165,10 @@ fn name((code, field): Pair) -> String {
     }
 }
 
-/// The shortest blob of each pair, and the shortest accepted one with entries in every list.
-fn generated(seed: u64) -> (BTreeMap<Pair, Vec<u8>>, Option<Vec<u8>>) {
+/// The shortest blob of each pair, and the shortest accepted one that is special in each way.
+fn generated(seed: u64) -> (BTreeMap<Pair, Vec<u8>>, [Option<Vec<u8>>; SPECIAL.len()]) {
     let mut shortest: BTreeMap<Pair, Vec<u8>> = BTreeMap::new();
-    let mut full: Option<Vec<u8>> = None;
+    let mut special: [Option<Vec<u8>>; SPECIAL.len()] = Default::default();
     for index in 0..LOOKED_AT {
         let blob = generator::blob(&mut Rng::new(seed, index), generator::DAMAGED);
         if blob.len() > BLOB {
@@ -126,15 +176,18 @@ fn generated(seed: u64) -> (BTreeMap<Pair, Vec<u8>>, Option<Vec<u8>>) {
         }
         let found = answer(&blob);
         let shorter = |known: &Vec<u8>| blob.len() < known.len();
-        if !found.counts().contains(&0) && full.as_ref().is_none_or(shorter) {
-            full = Some(blob.clone());
+        for (special, known) in SPECIAL.iter().zip(&mut special) {
+            if found.code == 0 && known.as_ref().is_none_or(shorter) && (special.has)(&blob, &found)
+            {
+                *known = Some(blob.clone());
+            }
         }
         let pair = (found.code, found.field);
         if shortest.get(&pair).is_none_or(shorter) {
             shortest.insert(pair, blob);
         }
     }
-    (shortest, full)
+    (shortest, special)
 }
 
 /// Codes 8 and 9, which are the port's own: what docs/FORMAT.md says of them, and of their order.
@@ -164,6 +217,12 @@ fn own() -> Vec<Case> {
             &t,
             room(TEMPLATES, 0),
             refusal(9, TEMPLATES.into(), 0),
+        ),
+        case(
+            "U with no room for an item",
+            &known::u(),
+            room(ITEMS, 0),
+            refusal(9, ITEMS.into(), 0),
         ),
         case(
             "T with no room at all",

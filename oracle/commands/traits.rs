@@ -2,7 +2,7 @@
 
 use answers::Answer;
 use answers::lists::{
-    DEFINITIONS, DESCRIPTORS, EVENTS, MAP_ENTRIES, MAPS, PROVIDERS, ROWS, TABLES, TEMPLATES,
+    DEFINITIONS, DESCRIPTORS, EVENTS, ITEMS, MAP_ENTRIES, MAPS, PROVIDERS, ROWS, TABLES, TEMPLATES,
     UNKNOWN_ELEMENTS,
 };
 
@@ -119,11 +119,40 @@ fn accepted(blob: &[u8], answer: &Answer) -> Vec<Trait> {
             ],
         ));
     }
+    traits.extend(items(blob, answer));
     for unknown in answer.entries(UNKNOWN_ELEMENTS) {
         traits.push((
             "unknown",
             [few(unknown[0].into()), few(unknown[3].into()), 0, 0],
         ));
+    }
+    traits
+}
+
+/// Items with their names, where these stand, and whether two share one.
+fn items(blob: &[u8], answer: &Answer) -> Vec<Trait> {
+    let mut traits = Vec::new();
+    let templates: Vec<&[u32]> = answer.entries(TEMPLATES).collect();
+    let mut before: Option<&[u32]> = None;
+    for item in answer.entries(ITEMS) {
+        let template = templates[item[0] as usize];
+        let name = named(blob, item[6], item[7], item[8]);
+        traits.push(("item", [few(item[0].into()), name, 0, 0]));
+        let [first, end] = [template[4], template[4] + 20 * template[2]];
+        let stands = match item[6] {
+            0 => 0,
+            name if name < template[0] + 40 => 1,
+            name if name < first => 2,
+            name if name < end => 3,
+            _ => 4,
+        };
+        let shared = before.is_some_and(|before| before[0] == item[0] && before[6] == item[6]);
+        let in_header = u32::from(first < template[0] + 40);
+        traits.push(("item's name", [stands, in_header, u32::from(shared), 0]));
+        for (place, &word) in (0..).zip(&item[1..6]) {
+            traits.push(("item's word", [place, few(word.into()), 0, 0]));
+        }
+        before = Some(item);
     }
     traits
 }

@@ -9,6 +9,8 @@ pub struct Draft {
     pub bytes: Vec<u8>,
     /// The most records that a table gets.
     scale: usize,
+    /// Whether TEMPs may have what the original refuses.
+    pub odd: bool,
     /// Places of the words that steer a reading: sizes, counts and offsets.
     pub steering: Vec<usize>,
     /// Places of the words that hold a WEVT's offset.
@@ -33,6 +35,7 @@ impl Draft {
         Draft {
             bytes: Vec::new(),
             scale,
+            odd: false,
             steering: Vec::new(),
             providers: Vec::new(),
             descriptors: Vec::new(),
@@ -55,6 +58,11 @@ impl Draft {
     pub fn count(&self, rng: &mut Rng, record: usize) -> usize {
         let room = ROOM.saturating_sub(self.bytes.len()) / record;
         rng.between(0, self.scale.min(room))
+    }
+
+    /// The most of something of which there are few.
+    pub fn most(&self, few: usize) -> usize {
+        self.scale.min(few)
     }
 
     /// A length for bytes that nothing reads.

@@ -1,7 +1,8 @@
-//! The elements of a provider, MAPS excepted. Each function writes one at the
+//! The elements of a provider, MAPS and what is in a TTBL excepted. Each function writes one at the
 //! draft's end and gives the place where it starts.
 
 use crate::draft::Draft;
+use crate::items;
 use crate::maps;
 use crate::names;
 use crate::rng::Rng;
@@ -35,6 +36,9 @@ pub const LAYOUTS: [Layout; 5] = [
 /// How many sorts of element there are: the eight kinds and the unknown ones.
 pub const SORTS: usize = 9;
 
+/// Which of them is the TTBL.
+pub const TEMPLATES: usize = 6;
+
 const KNOWN: [&[u8; 4]; 8] = [
     b"CHAN", b"EVNT", b"KEYW", b"LEVL", b"MAPS", b"OPCO", b"TASK", b"TTBL",
 ];
@@ -46,8 +50,8 @@ pub fn write(draft: &mut Draft, rng: &mut Rng, sort: usize) -> usize {
             let count = draft.count(rng, 48);
             events(draft, rng, count)
         }
-        6 => {
-            let count = draft.count(rng, 40 + draft.longest_body());
+        TEMPLATES => {
+            let count = draft.count(rng, items::longest(draft));
             templates(draft, rng, count)
         }
         7 => {
@@ -101,34 +105,9 @@ pub fn templates(draft: &mut Draft, rng: &mut Rng, count: usize) -> usize {
     let start = draft.open(b"TTBL");
     draft.steer(count as u32);
     for _ in 0..count {
-        template(draft, rng);
+        items::template(draft, rng);
     }
     draft.end(rng, start);
-    start
-}
-
-pub fn template(draft: &mut Draft, rng: &mut Rng) -> usize {
-    let start = draft.open(b"TEMP");
-    let descriptors = rng.pick(&[0, 0, 1, 2, u32::MAX]);
-    let names = if descriptors == 0 { 0 } else { rng.word() };
-    draft.steer(descriptors);
-    draft.steer(names);
-    let items = draft.steer(0);
-    draft.word(rng.word());
-    draft.random(rng, 16);
-    let body = draft.body(rng);
-    draft.random(rng, body);
-    draft.end_exactly(start);
-
-    let size = 40 + body;
-    let relative = match rng.below(6) {
-        0 | 1 => None,
-        2 => Some(size),
-        3 => Some(rng.below(41)),
-        _ => Some(rng.between(40, size)),
-    };
-    draft.set(items, relative.map_or(0, |r| (start + r) as u32));
-    draft.templates.push(start as u32);
     start
 }
 

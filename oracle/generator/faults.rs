@@ -2,8 +2,10 @@
 //! a way to bring it about. A fault is grafted on: it is written at the end of a
 //! good draft, and a provider or a descriptor of the draft is turned to it.
 
+use crate::bad_items;
 use crate::draft::Draft;
 use crate::elements::{self, LAYOUTS, Layout};
+use crate::items;
 use crate::maps;
 use crate::names::{self, past};
 use crate::rng::Rng;
@@ -17,14 +19,15 @@ pub fn graft(draft: &mut Draft, rng: &mut Rng) {
         draft.set(word, at);
     } else {
         let word = rng.pick(&draft.descriptors);
-        let start = match rng.below(9) {
+        let start = match rng.below(11) {
             0..=3 => {
                 let layout = rng.pick(&LAYOUTS);
                 definitions(draft, rng, layout)
             }
             4 => table(draft, rng, b"EVNT", 16, 48),
             5 => templates(draft, rng),
-            6 | 7 => maps(draft, rng),
+            6 | 7 => items(draft, rng),
+            8 | 9 => maps(draft, rng),
             _ => unknown(draft, rng),
         };
         draft.set(word, start as u32);
@@ -133,10 +136,9 @@ fn templates(draft: &mut Draft, rng: &mut Rng) -> usize {
     let good = rng.below(2);
     draft.steer(good as u32 + 1);
     for _ in 0..good {
-        elements::template(draft, rng);
+        items::template(draft, rng);
     }
-    let temp = elements::template(draft, rng);
-    let end = draft.bytes.len();
+    let temp = items::template(draft, rng);
     if rng.chance(70) {
         draft.end_exactly(start);
     }
@@ -152,16 +154,48 @@ fn templates(draft: &mut Draft, rng: &mut Rng) -> usize {
                 draft.set(start + 4, (kept - start) as u32);
             }
         }
-        4 => draft.set(temp, rng.word()),
-        5 => draft.set(temp + 4, rng.below(40) as u32),
-        6 => oversize(draft, rng, temp),
-        7 => {
+        _ => template(draft, rng, temp),
+    }
+    start
+}
+
+/// Spoils the header of the last TEMP.
+fn template(draft: &mut Draft, rng: &mut Rng, temp: usize) {
+    let end = draft.here();
+    match rng.below(6) {
+        0 => draft.set(temp, rng.word()),
+        1 => draft.set(temp + 4, rng.below(40) as u32),
+        2 => oversize(draft, rng, temp),
+        3 => {
             draft.set(temp + 8, 0);
             draft.set(temp + 12, rng.word().max(1));
         }
-        8 => draft.set(temp + 16, rng.between(1, temp - 1) as u32),
-        _ => draft.set(temp + 16, (end as u32).saturating_add(past(rng))),
+        4 => draft.set(temp + 16, rng.between(1, temp - 1) as u32),
+        _ => draft.set(temp + 16, end.saturating_add(past(rng))),
     }
+}
+
+/// A TTBL with a TEMP whose items are refused, some before it and some behind it. Whatever is wrong
+/// with those, the first fault decides.
+fn items(draft: &mut Draft, rng: &mut Rng) -> usize {
+    let start = draft.open(b"TTBL");
+    let (before, behind) = (rng.below(3), rng.below(3));
+    draft.steer((before + 1 + behind) as u32);
+    for _ in 0..before {
+        items::template(draft, rng);
+    }
+    bad_items::template(draft, rng);
+    for _ in 0..behind {
+        let temp = if rng.chance(50) {
+            bad_items::template(draft, rng)
+        } else {
+            items::template(draft, rng)
+        };
+        if rng.chance(30) {
+            template(draft, rng, temp);
+        }
+    }
+    draft.end(rng, start);
     start
 }
 

@@ -3,6 +3,7 @@
 use crate::damage;
 use crate::draft::Draft;
 use crate::elements::{self, LAYOUTS};
+use crate::items;
 use crate::maps;
 use crate::names;
 use crate::rng::Rng;
@@ -16,7 +17,8 @@ const MOST: usize = 65_536;
 
 /// A large blob: much of one thing, and a name that ends where the blob ends.
 pub fn blob(rng: &mut Rng) -> Vec<u8> {
-    let mut draft = Draft::new(20);
+    let mut draft = Draft::new(4);
+    draft.odd = rng.chance(30);
     much(&mut draft, rng);
     // Behind it a name has room.
     let least = draft.bytes.len() + 16;
@@ -40,9 +42,10 @@ pub fn blob(rng: &mut Rng) -> Vec<u8> {
 
 /// Much of one thing. Some of it is more than any list has room for.
 fn much(draft: &mut Draft, rng: &mut Rng) {
-    let sort = rng.below(7);
+    let sort = rng.below(8);
     let providers = match sort {
         0 => rng.pick(&[MOST, MOST + 1, 40_000]),
+        3 => 1,
         _ => rng.between(1, 3),
     };
     head(draft, rng, providers);
@@ -63,14 +66,18 @@ fn much(draft: &mut Draft, rng: &mut Rng) {
             offsets.push(elements::templates(draft, rng, count));
         }
         3 => {
+            let count = rng.pick(&[MOST, MOST + 1, 300_000]);
+            offsets.push(many_items(draft, rng, count));
+        }
+        4 => {
             let count = rng.pick(&[1000, 40_000]);
             offsets.push(maps::write(draft, rng, count));
         }
-        4 => {
+        5 => {
             let count = rng.pick(&[MOST, MOST + 1, 1_000_000]);
             offsets.push(maps::one_of_many(draft, rng, count));
         }
-        5 => {
+        6 => {
             for _ in 0..rng.pick(&[100, 20_000]) {
                 let units = rng.between(100, 200);
                 names::long(draft, rng, units);
@@ -100,4 +107,22 @@ fn much(draft: &mut Draft, rng: &mut Rng) {
         }
         draft.set(draft.providers[i], at);
     }
+}
+
+/// A TTBL with so many items in all, in TEMPs with any number of them.
+fn many_items(draft: &mut Draft, rng: &mut Rng, items: usize) -> usize {
+    let mut counts = Vec::new();
+    let mut left = items;
+    while left > 0 {
+        let count = rng.pick(&[0, 1, 10, 1000, 100_000]).min(left);
+        counts.push(count);
+        left -= count;
+    }
+    let start = draft.open(b"TTBL");
+    draft.steer(counts.len() as u32);
+    for count in counts {
+        items::any(draft, rng, count).end(draft);
+    }
+    draft.end(rng, start);
+    start
 }

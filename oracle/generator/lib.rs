@@ -1,10 +1,12 @@
 //! Blobs to test a reader of manifests with: good ones of every shape, and
 //! damaged ones that together reach every answer.
 
+mod bad_items;
 mod damage;
 mod draft;
 mod elements;
 mod faults;
+mod items;
 pub mod joins;
 pub mod known;
 pub mod large;

@@ -3,6 +3,9 @@
 use crate::draft::Draft;
 use crate::rng::Rng;
 
+/// The most bytes that a good name takes, one within it included.
+pub const LONGEST: usize = 72;
+
 /// Writes a good name and gives its offset.
 pub fn write(draft: &mut Draft, rng: &mut Rng) -> u32 {
     let mut units = text(rng);

@@ -9,6 +9,7 @@ use crate::rng::Rng;
 pub fn draft(rng: &mut Rng, least: usize) -> Draft {
     let scale = if rng.chance(2) { 150 } else { 3 };
     let mut draft = Draft::new(scale);
+    draft.odd = rng.chance(40);
     let count = rng.pick(&[0, 1, 1, 1, 1, 1, 2, 2, 2, 3, 4]).max(least);
     head(&mut draft, rng, count);
     for _ in 0..rng.below(3) {
@@ -94,7 +95,12 @@ fn sorts(rng: &mut Rng, least: usize) -> Vec<usize> {
     let mut sorts: Vec<usize> = Vec::new();
     for _ in 0..count {
         let again = sorts.last().copied().filter(|_| rng.chance(15));
-        sorts.push(again.unwrap_or_else(|| rng.below(elements::SORTS)));
+        // TTBLs come more often than the others: there is most to get wrong in them.
+        let any = match rng.below(elements::SORTS + 2) {
+            elements::SORTS.. => elements::TEMPLATES,
+            sort => sort,
+        };
+        sorts.push(again.unwrap_or(any));
     }
     sorts
 }

@@ -1,4 +1,4 @@
-//! The blobs Z and T of docs/FORMAT.md. This file stands alone: the tests of `bindings/rust` use it too.
+//! The blobs Z, T and U of docs/FORMAT.md. This file stands alone: the tests of `bindings/rust` use it too.
 
 /// `CRIM`, size 16, no provider.
 pub fn z() -> Vec<u8> {
@@ -27,6 +27,26 @@ pub fn t() -> Vec<u8> {
         t = with(&t, place, value);
     }
     t
+}
+
+/// As T, with an item in the template whose name is `A`, and eight bytes more behind it.
+pub fn u() -> Vec<u8> {
+    let mut u = t();
+    u.resize(152, 0);
+    for (place, value) in [
+        (4, 152),        // CRIM.size
+        (68, 80),        // TTBL.size
+        (80, 68),        // TEMP.size
+        (84, 1),         // item count
+        (88, 1),         // name count
+        (92, 116),       // items offset
+        (132, 136),      // the item's name offset
+        (136, 8),        // the name's size
+        (140, 'A' as _), // its units, the second of them zero
+    ] {
+        u = with(&u, place, value);
+    }
+    u
 }
 
 /// A copy of the blob with one word set.
