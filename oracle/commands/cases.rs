@@ -89,6 +89,7 @@ fn expected() -> Vec<(Answer, Option<Case>)> {
         (refusal(4, 88, 88, 1, 0), None),
         (u_accepted(), None),
         (refusal(1, 137, 116, 40, 28), None),
+        (refusal(1, 137, 116, 40, 28), None),
         (refusal(1, 137, 144, 20, 0), Some(Case::OffsetZero)),
         (refusal(5, 146, 75, 152, 0), Some(Case::NameBefore)),
         (named, Some(Case::NameBeforeItemsEnd)),

@@ -24,6 +24,10 @@ pub fn cases() -> Vec<(&'static str, Vec<u8>)> {
         ("T with name count 1", with(&t, 88, 1)),
         ("U", u.clone()),
         ("U with item count 2", with(&u, 84, 2)),
+        (
+            "U with item count 2 and name offset 75",
+            with(&with(&u, 84, 2), 132, 75),
+        ),
         ("U with items offset 0", with(&u, 92, 0)),
         ("U with name offset 75", with(&u, 132, 75)),
         (

@@ -184,7 +184,7 @@ fn say_broken(number: u64) {
 // Says that all went well.
 fn say_all(number: u64) {
     io::print_decimal(STDOUT_FILENO, number);
-    io::write_all(STDOUT_FILENO, b" blobs, all as the original answers\n");
+    io::write_all(STDOUT_FILENO, b" blobs, all as the oracle answers\n");
 }
 
 // Whether the answer has the right numbers; says of the first that is wrong what it is.

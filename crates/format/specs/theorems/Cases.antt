@@ -42,15 +42,15 @@ T ttbl temp names items =
 
 -- Blob U: T with an item. "152 bytes in T's layout, CRIM.size 152, TTBL.size 80; TEMP at 76 with size 68, item count 1, name count 1, items
 -- offset 116; the item's name offset (at 132) 136; at 136 the name: size 8, `A`, zero unit." The word at 100 is the first of its GUID
-abbrev pub U : (count items guid name size : ℕ) → List ℕ
-U count items guid name size =
+abbrev pub U : (count items guid name size text : ℕ) → List ℕ
+U count items guid name size text =
     flat four (
     CRIM ∷ 152 ∷ 0 ∷ 1 ∷ 0 ∷ 0 ∷ 0 ∷ 0 ∷ 36
     ∷ WEVT ∷ 80 ∷ 0 ∷ 1 ∷ 0 ∷ 64 ∷ 0
     ∷ signature TTBL ∷ 80 ∷ 1
     ∷ TEMP ∷ 68 ∷ count ∷ 1 ∷ items ∷ 0 ∷ guid ∷ 0 ∷ 0 ∷ 0
     ∷ 0 ∷ 0 ∷ 0 ∷ 0 ∷ name
-    ∷ size ∷ 0x41 ∷ 0 ∷ 0 ∷ [])
+    ∷ size ∷ text ∷ 0 ∷ 0 ∷ [])
 
 -- one entry of each list, and words for them
 abbrev pub one-each : List ℕ
@@ -104,20 +104,23 @@ table =
     ∷ record { bytes = T 52 40 0 117; row = refusal 5 89 41 40 0 }
     ∷ record { bytes = T 52 40 1 0; row = refusal 4 88 88 1 0 }
     -- U: T's entries, and an item of template 0 with the name at 140, one unit
-    ∷ record { bytes = U 1 116 0 136 8; row = with-item 0 136 140 1 }
+    ∷ record { bytes = U 1 116 0 136 8 0x41; row = with-item 0 136 140 1 }
     -- "`U[84]=2`: 1 at 116, 40, 28. `U[92]=0`: 1 at 144, 20, 0."
-    ∷ record { bytes = U 2 116 0 136 8; row = refusal 1 137 116 40 28 }
-    ∷ record { bytes = U 1 0 0 136 8; row = refusal 1 137 144 20 0 }
+    ∷ record { bytes = U 2 116 0 136 8 0x41; row = refusal 1 137 116 40 28 }
+    ∷ record { bytes = U 1 0 0 136 8 0x41; row = refusal 1 137 144 20 0 }
     -- the array as a whole before any name
-    ∷ record { bytes = U 2 116 0 75 8; row = refusal 1 137 116 40 28 }
+    ∷ record { bytes = U 2 116 0 75 8 0x41; row = refusal 1 137 116 40 28 }
     -- "`U[132]=75`: 5 at 75, 152. `U[132]=100` with a sound name there is accepted"
-    ∷ record { bytes = U 1 116 0 75 8; row = refusal 5 146 75 152 0 }
-    ∷ record { bytes = U 1 116 4 100 8; row = with-item 4 100 104 0 }
+    ∷ record { bytes = U 1 116 0 75 8 0x41; row = refusal 5 146 75 152 0 }
+    ∷ record { bytes = U 1 116 4 100 8 0x41; row = with-item 4 100 104 0 }
     -- "`U[132]=145`: 5 at 145, 144. `U[132]=144`: 1 at 144, 4, 0. `U[136]=3`: 3 at 136, 3. An odd size is 6"
-    ∷ record { bytes = U 1 116 0 145 8; row = refusal 5 149 145 144 0 }
-    ∷ record { bytes = U 1 116 0 144 8; row = refusal 1 149 144 4 0 }
-    ∷ record { bytes = U 1 116 0 136 3; row = refusal 3 149 136 3 0 }
-    ∷ record { bytes = U 1 116 0 136 7; row = refusal 6 149 136 0 0 }
+    ∷ record { bytes = U 1 116 0 145 8 0x41; row = refusal 5 149 145 144 0 }
+    ∷ record { bytes = U 1 116 0 144 8 0x41; row = refusal 1 149 144 4 0 }
+    ∷ record { bytes = U 1 116 0 136 3 0x41; row = refusal 3 149 136 3 0 }
+    ∷ record { bytes = U 1 116 0 136 7 0x41; row = refusal 6 149 136 0 0 }
+    -- a name that ends past the TEMP, and half a surrogate pair
+    ∷ record { bytes = U 1 116 0 136 10 0x41; row = refusal 1 149 136 10 8 }
+    ∷ record { bytes = U 1 116 0 136 8 0xD800; row = refusal 6 149 136 0 0 }
     ∷ []
   where
     empty : Row
