@@ -476,6 +476,7 @@ impl Lists<'_> {
             );
         }
     }
+
     /// The items of the template with a number.
     pub fn items(&mut self, template: u32, items: &[TemplateItem]) {
         for item in items {

@@ -2,6 +2,7 @@
 
 use crate::amended::reader::wevt_templates::manifest::notes::Note;
 use crate::differences::{Case, Said};
+use crate::lists::{ITEMS, ROWS, row_of};
 use crate::{Answer, fields, refusal};
 
 const NAME: &str = "template item name";
@@ -61,7 +62,7 @@ impl Temp {
                 offset,
                 end,
             );
-            return Some((Case::OffsetWithoutItems, refused, ours.is_ok()));
+            return Some((Case::OffsetWithoutItems, refused, *ours == Ok(vec![])));
         }
         if offset == 0 {
             let refused = five("TEMP.template_items_offset", 0, end);
@@ -134,7 +135,10 @@ impl Temp {
     fn names_read(&self, names: &[u32], ours: &Said) -> bool {
         let outside = names.iter().position(|&name| self.outside(name));
         match (ours, outside) {
-            (Ok(words), None) => words.len() == 9 * names.len(),
+            (Ok(words), None) => {
+                let entries = words.chunks(ROWS[row_of(ITEMS)].words);
+                entries.map(|entry| entry[6]).eq(names.iter().copied())
+            }
             (Ok(_), Some(_)) => false,
             (Err(refused), None) => self.name_refused(names, refused),
             (Err(refused), Some(i)) => self.name_refused(&names[..=i], refused),

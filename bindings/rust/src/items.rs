@@ -56,7 +56,8 @@ impl Item<'_> {
     /// # Ok::<(), Box<dyn std::error::Error>>(())
     /// ```
     ///
-    /// Nothing, too, if these bytes are another block, which ends before the name does.
+    /// These bytes are meant to be the block that was read. Of others it is what stands at the
+    /// name's place, and nothing if they end before.
     pub fn name<'b>(&self, blob: &'b [u8]) -> Option<Name<'b>> {
         let Part { start, bytes } = self.name?.part;
         let bytes = blob.get(start as usize..)?.get(..bytes.len())?;

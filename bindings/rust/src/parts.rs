@@ -105,7 +105,8 @@ impl<'a> Name<'a> {
         pairs.map(|pair| u16::from_le_bytes([pair[0], pair[1]]))
     }
 
-    /// The characters. The reading refuses units that are none, so nothing is replaced here.
+    /// The characters. The reading refuses units that are none, so of the block that was read
+    /// nothing is replaced here.
     pub fn chars(&self) -> impl Iterator<Item = char> + use<'a> {
         char::decode_utf16(self.units()).map(|c| c.unwrap_or(char::REPLACEMENT_CHARACTER))
     }

@@ -14,7 +14,7 @@ use Rattle.blob.specs.declared.Verdict.the-variants as verdicts
 use Rattle.blob.specs.Reading.{Outcome, done, refused, choose, run, many, answer, verdict, values}
 use Rattle.format.specs.Table.{MAPS, TTBL, kinds, kindOf}
 use Rattle.format.specs.Definition.{step}
-use Rattle.format.specs.Provider.{Rows, definitions, events, maps, templates, Table, Element, table, unknown, descriptorAt, unknownAt, elementOf, elementAt, elementsFrom}
+use Rattle.format.specs.Provider.{Rows, definitions, events, maps, templates, Table, Element, unknown, descriptorAt, unknownAt, elementOf, elementAt, elementsFrom}
 use Rattle.format.specs.Lists.{lastOf, listOf, kept, unknowns, definitionsIn, eventsIn, mapsIn, templatesIn}
 use Rattle.format.specs.Answer.{capped}
 use Rattle.format.specs.Area as area

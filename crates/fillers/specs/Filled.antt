@@ -2,14 +2,14 @@
 use Prim.Native.Nat.{ℕ, zero, suc, _+_, _*_, _≤_, _<_}
 use mathlib.Core.Path.{_≡_, refl, ap, sym, _∙_, subst}
 use mathlib.Core.Bool.{true}
-use mathlib.Core.List.{List, [], _∷_, _++_, map, append-nil}
+use mathlib.Core.List.{List, [], _∷_, map, append-nil}
 use native.Mathlib.Nat.{mul-suc}
 use native.Mathlib.Omega.{arith}
 use lib.ListN.{length, getD, set, length-append, length-set}
 use lib.Seq.{getD-set-same}
 use borrow.Author.Tests.{ne-eqb}
 use Rattle.blob.specs.declared.Verdict.the-variants as verdicts
-use Rattle.blob.specs.Reading.{Reading, Outcome, done, refused, run, many, verdict, values}
+use Rattle.blob.specs.Reading.{Outcome, done, refused, run, many, verdict, values}
 use Rattle.blob.specs.Laid.{flat, flat-append, flat-map, laid}
 use Rattle.blob.specs.Laws.{fine-value, length-flat}
 use Rattle.format.specs.Area as list
@@ -44,7 +44,7 @@ definitions-stride (suc (suc (suc (suc (suc (suc (suc (suc (suc k))))))))) h g e
 -- a list that is none of the others is taken for that of templates
 module _ (l : ℕ) (t : l ≡ TABLES → ⊥) (d : l ≡ DEFINITIONS → ⊥) (e : l ≡ EVENTS → ⊥) (m : l ≡ list.MAPS → ⊥) (n : l ≡ ENTRIES → ⊥) (i : l ≡ ITEMS → ⊥) where
   pub as-templates : (k : ℕ) → hasEntries l k ≡ hasEntries TEMPLATES k
-  as-templates k = rw (ne-eqb l TABLES t, ne-eqb l DEFINITIONS d, ne-eqb l EVENTS e, ne-eqb l list.MAPS m, ne-eqb l ENTRIES n, ne-eqb l ITEMS i)
+  as-templates k = rw (ne-eqb l TABLES t, ne-eqb l DEFINITIONS d, ne-eqb l EVENTS e, ne-eqb l list.MAPS m, ne-eqb l ENTRIES n)
 
   pub parts-templates : (p : ℕ) (before : List ℕ) (o : Outcome Table)
       → (tableParts l p before (only o) ≡ tableParts TEMPLATES p before (only o)) × (behindAll l before (only o) ≡ behindAll TEMPLATES before (only o))

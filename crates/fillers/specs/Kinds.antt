@@ -12,7 +12,7 @@ use borrow.Rule.Slice.PartMut.{midOf, putMid}
 use borrow.Author.Tests.{ne-eqb, eqb-true, eqb-false}
 use Rattle.blob.specs.Le.{le}
 use Rattle.blob.specs.declared.Verdict.the-variants as verdicts
-use Rattle.blob.specs.Reading.{Outcome, done, refused, choose, run, verdict, values}
+use Rattle.blob.specs.Reading.{done, choose, run, verdict, values}
 use Rattle.blob.specs.Laws.{fine-value}
 use Rattle.blob.specs.Places.{Each}
 use Rattle.blob.specs.Laid.{flat, laid}
@@ -90,7 +90,7 @@ module _ (k at : ℕ) (h : Header) (s : List ℕ) (t : Table) (n : ℕ) (before 
       )
       (λ f q.
       rw (f .0, f .1 .0, f .1 .1 .0, f .1 .1 .1 .0, f .1 .1 .1 .1 .0, f .1 .1 .1 .1 .1 .0)
-      (rw (no-templates (rw (f .0, f .1 .0, f .1 .1 .0, f .1 .1 .1 .0, f .1 .1 .1 .1 .0, f .1 .1 .1 .1 .1 .0) at q) x) (refl, refl)))
+      (rw (no-templates (rw (f .0, f .1 .0, f .1 .1 .0, f .1 .1 .1 .0, f .1 .1 .1 .1 .0) at q) x) (refl, refl)))
 
 -- The table of a kind that is kept at a place, by its header's words; none at the place that no blob has.
 abbrev pub headed : List ℕ → ℕ → Header

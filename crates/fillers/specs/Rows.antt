@@ -6,20 +6,20 @@ use mathlib.Core.List.{List, [], _∷_}
 use native.Mathlib.Omega.{arith}
 use lib.ListN.{length}
 use lib.Dec.{eqb}
-use borrow.Author.Tests.{eqb-true, eqb-false, ne-eqb}
+use borrow.Author.Tests.{eqb-true, eqb-false}
 use Rattle.blob.specs.Le.{le}
 use Rattle.blob.specs.declared.Refusal.{Refusal}
 use Rattle.blob.specs.Reading.{Outcome, done, refused, choose, run, many, answer}
 use Rattle.blob.specs.Laws.{never, same}
 use Rattle.format.specs.Area as area
-use Rattle.format.specs.Area.{TABLES, DEFINITIONS, EVENTS, ENTRIES, TEMPLATES, ITEMS, of, more}
+use Rattle.format.specs.Area.{TABLES, DEFINITIONS, EVENTS, ENTRIES, of, more}
 use Rattle.format.specs.Table.{EVNT, MAPS, TTBL, kindList, header-length, tableEnd}
 use Rattle.format.specs.Definition.{step, definitionsAt}
 use Rattle.format.specs.Event.{eventAt}
 use Rattle.format.specs.Template.{Template, templatesAt}
 use Rattle.format.specs.Map.{Mapped, mapsAt}
 use Rattle.format.specs.Provider.{Table, definitions, events, maps, templates, plain, tableAt}
-use Rattle.format.specs.Lists.{rowCount, definitionsIn, eventsIn, mapsIn, templatesIn}
+use Rattle.format.specs.Lists.{definitionsIn, eventsIn, mapsIn, templatesIn}
 use Rattle.format.specs.steps.Parts.{tablePart, behind}
 use Rattle.format.specs.declared.Header.{Header}
 use Rattle.format.specs.declared.Definition.{Definition}
@@ -37,8 +37,7 @@ hasEntries l k =
     choose (eqb l DEFINITIONS) (holdsDefinitions k) (
     choose (eqb l EVENTS) (eqb k EVNT) (
     choose (eqb l area.MAPS) (eqb k MAPS) (
-    choose (eqb l ENTRIES) (eqb k MAPS) (
-    choose (eqb l ITEMS) (eqb k TTBL) (eqb k TTBL))))))
+    choose (eqb l ENTRIES) (eqb k MAPS) (eqb k TTBL)))))
 
 -- what is known of a table where it was accepted
 abbrev pub trailingOf : Outcome Table → Trailing

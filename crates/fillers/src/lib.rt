@@ -1,4 +1,4 @@
-// The fillers: what lists 2 to 12 have of a provider's descriptors, of its unknown2 words, of the tables that are kept, by kind, and of the
+// The fillers: what lists 2 to 10 and 12 have of a provider's descriptors, of its unknown2 words, of the tables that are kept, by kind, and of the
 // elements of no known kind.
 ghost use mathlib.Core.Path.{_≡_};
 ghost use mathlib.Core.Bool.{true};
@@ -96,7 +96,6 @@ fn has_entries(list: u32, kind: u32) -> bool
         list::EVENTS => kind == EVNT,
         list::MAPS => kind == MAPS,
         list::ENTRIES => kind == MAPS,
-        list::ITEMS => kind == TTBL,
         _ => kind == TTBL,
     }
 }

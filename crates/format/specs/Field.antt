@@ -288,7 +288,7 @@ TASK-mui-identifier = 134
 abbrev pub TASK-data-offset : ℕ
 TASK-data-offset = 135
 
--- template items, which are not read
+-- template items: of these the array, a name before the TEMP, and a name otherwise are refused
 abbrev pub TEMP-template-items-offset-expected-end : ℕ
 TEMP-template-items-offset-expected-end = 136
 

@@ -1,4 +1,4 @@
--- Regions: where the bytes of a TTBL or a MAPS end, and the names in a blob.
+-- Regions: where the bytes of a TTBL or a MAPS end, the items of a TEMP, and the names in a TEMP or a blob.
 -- "size 0 ends the region at the blob end" (TTBL); "region as for TTBL, minimum 16" (MAPS); "Otherwise size under the header or
 -- past the blob is 3" (tables).
 use Prim.Native.Nat.{ℕ, _+_}

@@ -27,7 +27,7 @@ headerTold r = elim r [ declared.HeaderRead.the-variants.Header h ↦ done h | d
 abbrev pub mapTold : declared.MapRead.MapRead → Outcome declared.Map.Map
 mapTold r = elim r [ declared.MapRead.the-variants.Map m ↦ done m | declared.MapRead.the-variants.Refused q ↦ refused q ]
 
--- how many map entries
+-- how many map entries, or items
 abbrev pub entriesTold : declared.EntriesRead.EntriesRead → Outcome ℕ
 entriesTold r = elim r [ declared.EntriesRead.the-variants.Entries n ↦ done n | declared.EntriesRead.the-variants.Refused q ↦ refused q ]
 

@@ -7,13 +7,14 @@ ghost use Rattle.blob.specs.Reading.{run, many, verdict, values};
 ghost use Rattle.blob.specs.Laid.{laid, flat};
 ghost use mathlib.Core.List.{List};
 ghost use Rattle.format.specs.Area.{TEMPLATES, ITEMS, width};
-ghost use Rattle.format.specs.Region.{until};
+ghost use Rattle.format.specs.Field.{table-size};
+ghost use Rattle.format.specs.Region.{until, end, regionAt, endRead};
+ghost use Rattle.format.specs.Table.{TTBL};
 ghost use Rattle.format.specs.Template.{itemsOf, itemsAt, templateFields, templateAt, next, templatesAt};
 ghost use Rattle.format.specs.Item.{Item};
 ghost use Rattle.format.specs.Lists.{templateWords, itemList};
 ghost use Rattle.format.specs.steps.Needs.{itemCount, templatesRead};
 ghost use Rattle.template.specs.Temp.{binxmlLength, templateOf};
-ghost use Rattle.template.specs.Templates.{Ends};
 use blob::Verdict;
 use format::BlobPlace;
 use format::EndRead;
@@ -220,7 +221,7 @@ fn fill_until(b: &[u8], end: usize, start: usize, n: u32, area: &mut [u32])
 fn region_of(b: &[u8], at: usize, h: Header) -> usize
     requires { ⌜ (at + 12 ≤ length (now b)) × (length (now b) ≤ 16777216) ⌝ }
     requires { ⌜ verdict (run (templatesAt at h) (now b)) ≡ Verdict.Fine ⌝ }
-    ensures { λ r. ⌜ Ends at h (now (b .entry)) r ⌝ }
+    ensures { λ r. ⌜ EndRead.End r ≡ endRead (end (length (now (b .entry)))) (run (regionAt (table-size TTBL) at (h .size) 12) (now (b .entry))) ⌝ }
 {
     match bounds::region_end(b, TTBL_SIZE, at, h.size, 12) {
         EndRead::Refused(_) => 0,

@@ -6,7 +6,7 @@ mod small;
 
 use ducatfeather::{Capacities, List};
 
-pub use small::{t, with, z};
+pub use small::{t, u, with, z};
 
 /// What T needs.
 pub fn t_needs() -> Capacities {
@@ -15,26 +15,6 @@ pub fn t_needs() -> Capacities {
         .with(List::Descriptors, 1)
         .with(List::Tables, 1)
         .with(List::Templates, 1)
-}
-
-/// T with an item, whose name is A, and 8 bytes behind the table.
-pub fn u() -> Vec<u8> {
-    let mut u = t();
-    u.resize(152, 0);
-    for (place, value) in [
-        (4, 152),          // CRIM.size
-        (68, 80),          // TTBL.size
-        (80, 68),          // TEMP.size
-        (84, 1),           // item count
-        (88, 1),           // name count
-        (92, 116),         // items offset
-        (132, 136),        // the item's name offset
-        (136, 8),          // the name's size
-        (140, 'A' as u32), // the name, and a zero unit
-    ] {
-        u = with(&u, place, value);
-    }
-    u
 }
 
 /// What that one needs.

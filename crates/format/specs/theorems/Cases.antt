@@ -40,8 +40,8 @@ T ttbl temp names items =
     ∷ signature TTBL ∷ ttbl ∷ 1
     ∷ TEMP ∷ temp ∷ 0 ∷ names ∷ items ∷ 0 ∷ 0 ∷ 0 ∷ 0 ∷ 0 ∷ [])
 
--- Blob U: T with an item. "152 bytes in T's layout, CRIM.size 152, TTBL.size 80; TEMP at 76 with size 68, item count 1, name count 1, items
--- offset 116; the item's name offset (at 132) 136; at 136 the name: size 8, `A`, zero unit." The word at 100 is the first of its GUID
+-- Blob U: T with an item, 152 bytes: CRIM.size 152, TTBL.size 80; TEMP at 76 with size 68, item count 1 (at 84), name count 1, items offset
+-- 116 (at 92); the item's name offset (at 132) 136; at 136 the name: size 8, `A`, zero unit. The word at 100 is the first of its GUID
 abbrev pub U : (count items guid name size text : ℕ) → List ℕ
 U count items guid name size text =
     flat four (
@@ -105,15 +105,15 @@ table =
     ∷ record { bytes = T 52 40 1 0; row = refusal 4 88 88 1 0 }
     -- U: T's entries, and an item of template 0 with the name at 140, one unit
     ∷ record { bytes = U 1 116 0 136 8 0x41; row = with-item 0 136 140 1 }
-    -- "`U[84]=2`: 1 at 116, 40, 28. `U[92]=0`: 1 at 144, 20, 0."
+    -- items past the TEMP
     ∷ record { bytes = U 2 116 0 136 8 0x41; row = refusal 1 137 116 40 28 }
     ∷ record { bytes = U 1 0 0 136 8 0x41; row = refusal 1 137 144 20 0 }
     -- the array as a whole before any name
     ∷ record { bytes = U 2 116 0 75 8 0x41; row = refusal 1 137 116 40 28 }
-    -- "`U[132]=75`: 5 at 75, 152. `U[132]=100` with a sound name there is accepted"
+    -- a name before the TEMP, and one over its header
     ∷ record { bytes = U 1 116 0 75 8 0x41; row = refusal 5 146 75 152 0 }
     ∷ record { bytes = U 1 116 4 100 8 0x41; row = with-item 4 100 104 0 }
-    -- "`U[132]=145`: 5 at 145, 144. `U[132]=144`: 1 at 144, 4, 0. `U[136]=3`: 3 at 136, 3. An odd size is 6"
+    -- a name past the TEMP, and at its end; a size under 4, and an odd one
     ∷ record { bytes = U 1 116 0 145 8 0x41; row = refusal 5 149 145 144 0 }
     ∷ record { bytes = U 1 116 0 144 8 0x41; row = refusal 1 149 144 4 0 }
     ∷ record { bytes = U 1 116 0 136 3 0x41; row = refusal 3 149 136 3 0 }
@@ -130,59 +130,40 @@ table =
           lists = map (λ r. []) rows;
         }
 
-    whole : Row
-    whole =
+    -- one provider, descriptor, table and template, and so many items
+    accepted : (size ttbl : ℕ) → (template : List ℕ) → (items : ℕ) → (item : List ℕ) → Row
+    accepted size ttbl template items item =
         record {
           answer =
               record {
                 code = 0;
                 field = 0;
                 place = 0;
-                first = 116;
+                first = size;
                 second = 0;
-                counts = 1 ∷ 1 ∷ 0 ∷ 1 ∷ 0 ∷ 0 ∷ 0 ∷ 0 ∷ 1 ∷ 0 ∷ 0 ∷ [];
+                counts = 1 ∷ 1 ∷ 0 ∷ 1 ∷ 0 ∷ 0 ∷ 0 ∷ 0 ∷ 1 ∷ 0 ∷ items ∷ [];
               };
           lists =
               (0 ∷ 0 ∷ 0 ∷ 0 ∷ 36 ∷ 80 ∷ 0 ∷ 1 ∷ 0 ∷ [])
               ∷ (64 ∷ 0 ∷ 0x4C425454 ∷ [])
               ∷ []
-              ∷ (0 ∷ 8 ∷ 64 ∷ 52 ∷ 0 ∷ 0 ∷ 1 ∷ 0 ∷ 0 ∷ [])
+              ∷ (0 ∷ 8 ∷ 64 ∷ ttbl ∷ 0 ∷ 0 ∷ 1 ∷ 0 ∷ 0 ∷ [])
               ∷ []
               ∷ []
               ∷ []
               ∷ []
-              ∷ (76 ∷ 40 ∷ 0 ∷ 0 ∷ 0 ∷ 0 ∷ 0 ∷ 0 ∷ 0 ∷ 0 ∷ 116 ∷ 0 ∷ [])
+              ∷ template
               ∷ []
-              ∷ []
+              ∷ item
               ∷ [];
         }
 
+    whole : Row
+    whole = accepted 116 52 (76 ∷ 40 ∷ 0 ∷ 0 ∷ 0 ∷ 0 ∷ 0 ∷ 0 ∷ 0 ∷ 0 ∷ 116 ∷ 0 ∷ []) 0 []
+
     with-item : (guid offset start units : ℕ) → Row
     with-item guid offset start units =
-        record {
-          answer =
-              record {
-                code = 0;
-                field = 0;
-                place = 0;
-                first = 152;
-                second = 0;
-                counts = 1 ∷ 1 ∷ 0 ∷ 1 ∷ 0 ∷ 0 ∷ 0 ∷ 0 ∷ 1 ∷ 0 ∷ 1 ∷ [];
-              };
-          lists =
-              (0 ∷ 0 ∷ 0 ∷ 0 ∷ 36 ∷ 80 ∷ 0 ∷ 1 ∷ 0 ∷ [])
-              ∷ (64 ∷ 0 ∷ 0x4C425454 ∷ [])
-              ∷ []
-              ∷ (0 ∷ 8 ∷ 64 ∷ 80 ∷ 0 ∷ 0 ∷ 1 ∷ 0 ∷ 0 ∷ [])
-              ∷ []
-              ∷ []
-              ∷ []
-              ∷ []
-              ∷ (76 ∷ 68 ∷ 1 ∷ 1 ∷ 116 ∷ 0 ∷ guid ∷ 0 ∷ 0 ∷ 0 ∷ 116 ∷ 0 ∷ [])
-              ∷ []
-              ∷ (0 ∷ 0 ∷ 0 ∷ 0 ∷ 0 ∷ 0 ∷ offset ∷ start ∷ units ∷ [])
-              ∷ [];
-        }
+        accepted 152 80 (76 ∷ 68 ∷ 1 ∷ 1 ∷ 116 ∷ 0 ∷ guid ∷ 0 ∷ 0 ∷ 0 ∷ 116 ∷ 0 ∷ []) 1 (0 ∷ 0 ∷ 0 ∷ 0 ∷ 0 ∷ 0 ∷ offset ∷ start ∷ units ∷ [])
 
 -- every row is what the definition finds
 cases : map (λ c. found (c .bytes)) table ≡ map (λ c. c .row) table

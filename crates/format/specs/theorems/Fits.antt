@@ -5,14 +5,14 @@ use Prim.Native.Nat.{ℕ, zero, suc, _+_, _*_, _≤_, _<_}
 use mathlib.Core.Path.{_≡_, refl, ap, sym, _∙_}
 use mathlib.Core.Bool.{Bool, true, false}
 use mathlib.Core.List.{List, [], _∷_, _++_, map}
-use native.Mathlib.Nat.{zero-add, mul-zero, mul-suc, add-assoc, add-zero}
+use native.Mathlib.Nat.{zero-add, mul-zero, mul-suc, add-assoc}
 use native.Mathlib.Omega.{arith}
 use borrow.Author.Tests.{eqb-true}
 use lib.Dec.{eqb}
 use lib.ListN.{length, getD, set, drop, length-append, length-set}
 use lib.Seq.{getD-set-same, set-set}
 use Rattle.blob.specs.Places.{Each}
-use Rattle.blob.specs.Laid.{flat, flat-single, flat-flat}
+use Rattle.blob.specs.Laid.{flat, flat-flat}
 use Rattle.format.specs.Area.{TABLES, DEFINITIONS, EVENTS, MAPS, ENTRIES, TEMPLATES, UNKNOWN, ITEMS, Row, rows, place, width, none, more as so-many-more}
 use Rattle.format.specs.Template.{Template}
 use Rattle.format.specs.Map.{Mapped}
@@ -22,7 +22,7 @@ use Rattle.format.specs.Answer.{counted, capped}
 use Rattle.format.specs.steps.Needs.{total, afterAll, of-tables, entriesIn, has, needsAll}
 use Rattle.format.specs.steps.Parts.{Few, Counted, behind, behindAll, parts, passedAll}
 use Rattle.format.specs.theorems.Grows.{set-same, behindAll-same, behindAll-length, passedAll-tables}
-use Rattle.format.specs.theorems.Listed.{itemized, lists-itemized, First, first, number, listed}
+use Rattle.format.specs.theorems.Listed.{itemized, lists-itemized, first, number, listed}
 use Rattle.format.specs.theorems.Needed.{total-length, after-all, counted-has, needed}
 
 -- entries of so many words each

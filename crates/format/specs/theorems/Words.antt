@@ -1,13 +1,13 @@
 -- The words that lookups and programs ask for stand where the lists have them.
 use mathlib.Core.Path.{_≡_, refl}
-use mathlib.Core.List.{List, [], _∷_, _++_}
+use mathlib.Core.List.{List, [], _∷_}
 use Prim.Native.Nat.{ℕ}
 use lib.ListN.{length, take, drop}
 use Rattle.format.specs.Entry.{TABLE-PROVIDER, TABLE-KIND, TABLE-FIRST, TABLE-COUNT, GUID, KEY, EVENT-TEMPLATE, TEMPLATE-OFFSET, TEMPLATE-SIZE, TEMPLATE-GUID, TEMPLATE-START, TEMPLATE-LENGTH}
 use Rattle.format.specs.Area.{of}
 use Rattle.format.specs.Provider.{Provider}
 use Rattle.format.specs.Lists.{guidWords, providerWords, Owned, listOf, rowCount, tableWords, eventWords, templateWords}
-use Rattle.format.specs.Lookup.{wordOf, keyWords}
+use Rattle.format.specs.Lookup.{wordOf}
 use Rattle.format.specs.declared.Event.{Event}
 use Rattle.format.specs.Template.{Template}
 

@@ -1,6 +1,5 @@
 -- Each word is the definition's own.
-use mathlib.Core.Path.{_≡_, ap, sym, _∙_}
-use native.Mathlib.Omega.{arith}
+use mathlib.Core.Path.{ap, sym, _∙_}
 use borrow.Author.Needs.{needs}
 use Rattle.blob.specs.Laid.{laid}
 use Rattle.item.specs.Items.{item-words, name-fine}

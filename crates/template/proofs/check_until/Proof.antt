@@ -1,11 +1,10 @@
 -- The invariant: what is left decides. The answer for the TEMPs that are left, with the items so far, is that for all.
 use Prim.Native.Nat.{_+_, _≤_, _<_}
-use mathlib.Core.Path.{_≡_, refl, ap, sym, _∙_}
+use mathlib.Core.Path.{_≡_, ap, sym, _∙_}
 use native.Mathlib.Omega.{arith}
 use lib.ListN.{length}
 use borrow.Author.Needs.{needs}
 use borrow.Author.Tests.{lt-leb}
-use Rattle.blob.specs.declared.Verdict.the-variants as verdicts
 use Rattle.blob.specs.Reading.{run, many}
 use Rattle.blob.specs.Laws.{many-refused, many-empty, refused-value, run-fails}
 use Rattle.format.specs.Region.{until, inside}

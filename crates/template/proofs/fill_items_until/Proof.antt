@@ -14,7 +14,7 @@ use Rattle.format.specs.Region.{until}
 use Rattle.format.specs.Template.{templateAt, next}
 use Rattle.format.specs.Lists.{itemList}
 use Rattle.format.specs.steps.Needs.{total, itemCount}
-use Rattle.template.specs.Temp.{Stands, fine-count}
+use Rattle.template.specs.Temp.{Stands}
 use Rattle.template.specs.Templates.{first-fine, next-items, next-words}
 use Rattle.template.proofs.fill_items_until.Statement.{statement}
 use Rattle.template.proofs.fill_items_until.Tie as tie

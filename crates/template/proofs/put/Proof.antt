@@ -1,9 +1,8 @@
 -- Each word is the definition's own.
-use mathlib.Core.Path.{ap, sym, _∙_}
+use mathlib.Core.Path.{ap, _∙_}
 use borrow.Author.Needs.{needs}
 use Rattle.blob.specs.Laid.{laid}
-use Rattle.format.specs.Lists.{templateWords}
-use Rattle.template.specs.Temp.{guid-is, templateOf}
+use Rattle.template.specs.Temp.{guid-is}
 use Rattle.template.proofs.put.Statement.{statement}
 use Rattle.template.proofs.put.Tie as tie
 

@@ -3,7 +3,7 @@ use mathlib.Core.Path.{ap, sym, _∙_}
 use borrow.Author.Needs.{needs}
 use Rattle.blob.specs.Reading.{verdict}
 use Rattle.blob.specs.Laws.{not-fine}
-use Rattle.template.specs.Templates.{templates-refused, ends-there}
+use Rattle.template.specs.Templates.{templates-refused}
 use Rattle.template.proofs.region_of.Statement.{statement}
 use Rattle.template.proofs.region_of.Tie as tie
 
@@ -17,7 +17,7 @@ returns-2 : tie.Need-returns-2
 returns-2 c =
     let e = c .before in
     let r = e .before .before in
-    ends-there _ _ _ _ (r .before .before .pre .0 .0) (sym (e .end .given .1) ∙ r .region-end .ensures)
+    sym (e .end .given .1) ∙ r .region-end .ensures
 
 pub region-of-spec : {M : Type 1} → statement M
 region-of-spec = tie.close (tie.spec (λ c κs. search needs) (λ c. search needs) (λ c. search needs) returns returns-2)
