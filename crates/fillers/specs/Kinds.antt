@@ -74,8 +74,7 @@ module _ (k at : ℕ) (h : Header) (s : List ℕ) (t : Table) (n : ℕ) (before 
   not-here l =
       let x = shape k at h s t e in
       by-list (λ l. hasEntries l k ≡ false → (tablePart l n before t ≡ []) × (behind l before t ≡ before)) l
-      (TABLES ∷ DEFINITIONS ∷ EVENTS ∷ area.MAPS ∷ ENTRIES ∷ ITEMS ∷ [])
-      (
+      (TABLES ∷ DEFINITIONS ∷ EVENTS ∷ area.MAPS ∷ ENTRIES ∷ ITEMS ∷ []) (
         (λ q. absurd (let z : _≡_ {A = ℕ} 0 1 = cc in omega arith)),
         (
           (λ q. rw (no-definitions q x) (refl, refl)),

@@ -173,11 +173,12 @@ fn put(b: &[u8], at: usize, size: u32, area: &mut [u32], to: usize)
     requires { ⌜ to + width TEMPLATES ≤ length (now area) ⌝ }
     ensures { λ _. ⌜ ((is : List Item) → now (area .exit) ≡ laid (now (area .entry)) to (templateWords (templateOf (now (b .entry)) at size is))) ⌝ }
 {
-    let start = at as u32 + 40;
+    let temp = at as u32;
+    let start = temp + 40;
     let items = blob::word(b, at + 16);
     let g = guid_at(b, at + 24);
     let entry = [
-        at as u32,
+        temp,
         size,
         blob::word(b, at + 8),
         blob::word(b, at + 12),
@@ -241,7 +242,14 @@ pub fn fill(b: &[u8], at: usize, h: Header, area: &mut [u32])
 
 // Stores the words of the items of n TEMPs that `check_until` found fine, the first of which is the template with a number; hands back how
 // many words they are.
-fn fill_items_until(b: &[u8], end: usize, start: usize, n: u32, first: u32, area: &mut [u32]) -> usize
+fn fill_items_until(
+    b: &[u8],
+    end: usize,
+    start: usize,
+    n: u32,
+    first: u32,
+    area: &mut [u32],
+) -> usize
     requires { ⌜ (start ≤ end) × (end ≤ length (now b)) × (length (now b) ≤ 16777216) × (first + n ≤ 65536) ⌝ }
     requires { ⌜ verdict (run (many (templateAt (until end)) next n start) (now b)) ≡ Verdict.Fine ⌝ }
     requires { ⌜ width ITEMS * itemCount (values (run (many (templateAt (until end)) next n start) (now b))) ≤ length (now area) ⌝ }
@@ -255,7 +263,16 @@ fn fill_items_until(b: &[u8], end: usize, start: usize, n: u32, first: u32, area
     while 0 < left {
         let behind = at + blob::word(b, at + 4) as usize;
         let items = blob::word(b, at + 8);
-        item::fill(b, at as u32, behind, items, blob::word(b, at + 16), number, area, to);
+        item::fill(
+            b,
+            at as u32,
+            behind,
+            items,
+            blob::word(b, at + 16),
+            number,
+            area,
+            to,
+        );
         at = behind;
         left -= 1;
         number += 1;

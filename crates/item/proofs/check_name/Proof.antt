@@ -28,7 +28,7 @@ returns-2 c =
     let j = c .before in
     let a = j .before .before .args in
     let here : (eqb (a .offset) 0 || leb (a .temp) (a .offset)) ≡ true =
-        ⊎-elim (λ w. rw (eq-eqb _ _ (w .1 .left))) (λ w. from-or (eqb (a .offset) 0) (leb (a .temp) (a .offset)) (le-leb _ _ (w .left))) (j .if1 .came) in
+    ⊎-elim (λ w. rw (eq-eqb _ _ (w .1 .left))) (λ w. from-or (eqb (a .offset) 0) (leb (a .temp) (a .offset)) (le-leb _ _ (w .left))) (j .if1 .came) in
     c .check .ensures ∙ sym (ap verdict (run-holds _ _ _ _ here))
 
 pub check-name-spec : {M : Type 1} → statement M
