@@ -1,5 +1,5 @@
-// The fillers: what lists 2 to 10 and 12 have of a provider's descriptors, of its unknown2 words, of the tables that are kept, by kind, and of the
-// elements of no known kind.
+// The fillers: what lists 2 to 10 and 12 have of a provider's descriptors, of its unknown2 words, of the tables that are kept, by kind, and
+// of the elements of no known kind.
 ghost use mathlib.Core.Path.{_≡_};
 ghost use mathlib.Core.Bool.{true};
 ghost use Prim.Native.Nat.{_+_, _*_, _≤_};

@@ -84,7 +84,7 @@ fn check_fields(b: &[u8], at: usize, size: u32) -> Verdict
     if let Verdict::Refused(r) = found {
         return Verdict::Refused(r);
     }
-    // Most TEMPs of some blocks have no items: for them the call is half of what there is to do.
+    // Without items nothing can be wrong with them: the call, which TEMPs in a row would notice, is not made.
     if descriptors == 0 {
         return Verdict::Fine;
     }
