@@ -227,6 +227,7 @@ fn put_definition(area: &mut [u32], to: usize, d: Definition)
         d.mui.b,
         d.mui.c,
         d.mui.d,
+        d.name.ended as u32,
     ];
     words::put(area, to, &entry);
 }

@@ -59,13 +59,13 @@ rows =
     ∷ row DESCRIPTORS 3
     ∷ row UNKNOWN2 1
     ∷ row TABLES 9
-    ∷ row DEFINITIONS 12
+    ∷ row DEFINITIONS 13
     ∷ row EVENTS 16
-    ∷ row MAPS 11
+    ∷ row MAPS 12
     ∷ row ENTRIES 2
     ∷ row TEMPLATES 12
     ∷ row UNKNOWN 4
-    ∷ row ITEMS 9
+    ∷ row ITEMS 10
     ∷ []
 
 -- how many they are

@@ -14,6 +14,7 @@ use Rattle.format.specs.Template.{Template}
 use Rattle.format.specs.Map.{VALUE-MAP, Mapped}
 use Rattle.format.specs.Provider.{Rows, definitions, events, maps, templates, Table, Element, table, unknown, Provider}
 use Rattle.format.specs.declared.Guid.{Guid}
+use Rattle.format.specs.declared.Name.{Name}
 use Rattle.format.specs.declared.Definition.{Definition}
 use Rattle.format.specs.declared.Event.{Event}
 use Rattle.format.specs.declared.Map.{Map}
@@ -30,6 +31,10 @@ Entry = List ℕ
 abbrev pub guidWords : Guid → List ℕ
 guidWords g = g .a ∷ g .b ∷ g .c ∷ g .d ∷ []
 
+-- "the new last word 1 or 0 (0 for an absent name)" of each entry with a name: 1 where a zero unit ended it (request 04)
+abbrev pub endedWord : Name → ℕ
+endedWord n = choose (n .ended) 1 0
+
 -- "1 providers | 9 | GUID (4), WEVT offset, size, message, descriptor count, unknown2 count"
 abbrev pub providerWords : Provider → Entry
 providerWords p = guidWords (p .guid) ++ (p .offset ∷ p .size ∷ p .message ∷ length (p .descriptors) ∷ length (p .unknown2) ∷ [])
@@ -42,10 +47,12 @@ descriptorWords d = d .offset ∷ d .unknown ∷ d .signature ∷ []
 abbrev pub unknown2Words : ℕ → Entry
 unknown2Words w = w ∷ []
 
--- "5 definitions | 12 | kind, identifier low, high, message, name offset, name start, name units, unknown, mui (4)"
+-- "5 definitions | 12 | kind, identifier low, high, message, name offset, name start, name units, unknown, mui (4)"; "Definitions become
+-- 13 words" (request 04)
 abbrev pub definitionWords : Definition → Entry
 definitionWords d =
-    d .kind ∷ d .low ∷ d .high ∷ d .message ∷ d .offset ∷ d .name .start ∷ d .name .units ∷ d .unknown ∷ guidWords (d .mui)
+    d .kind ∷ d .low ∷ d .high ∷ d .message ∷ d .offset ∷ d .name .start ∷ d .name .units ∷ d .unknown
+    ∷ (guidWords (d .mui) ++ (endedWord (d .name) ∷ []))
 
 -- "6 events | 16 | the 15 fields of `EventDefinition` in order, keywords as low then high"
 abbrev pub eventWords : Event → Entry
@@ -54,11 +61,11 @@ eventWords e =
     ∷ e .«opcode_offset» ∷ e .«level_offset» ∷ e .«task_offset» ∷ e .«unknown_count» ∷ e .«unknown_offset» ∷ e .flags ∷ []
 
 -- "7 maps | 11 | 1 VMAP, 2 BMAP or 3 other; signature, offset, size, string offset, name start, units, first entry, count, data start,
--- data length"; "for BMAP and others size, string, first and count are 0"
+-- data length"; "for BMAP and others size, string, first and count are 0"; "and maps 12" (request 04)
 abbrev pub mapWords : ℕ → Map → Entry
 mapWords before m =
     m .kind ∷ m .signature ∷ m .offset ∷ m .size ∷ m .string ∷ m .name .start ∷ m .name .units
-    ∷ choose (eqb (m .kind) VALUE-MAP) before 0 ∷ m .count ∷ m .start ∷ m .length ∷ []
+    ∷ choose (eqb (m .kind) VALUE-MAP) before 0 ∷ m .count ∷ m .start ∷ m .length ∷ endedWord (m .name) ∷ []
 
 -- "8 map entries | 2 | identifier, message"
 abbrev pub mapEntryWords : MapEntry → Entry
@@ -74,11 +81,11 @@ abbrev pub unknownWords : ℕ → Unknown → Entry
 unknownWords provider u = provider ∷ u .signature ∷ u .offset ∷ u .size ∷ []
 
 -- "Items go to a new list of 9 words: template number; unknown1; the two types, input in the low byte; unknown3; unknown4; count and
--- length, count in the low half; name offset; name start; name units." (request 01)
+-- length, count in the low half; name offset; name start; name units." (request 01); "items get it too" (request 04)
 abbrev pub itemWords : ℕ → Item → Entry
 itemWords template i =
     template ∷ i .unknown1 ∷ (i .input + 256 * i .output) ∷ i .unknown3 ∷ i .unknown4 ∷ (i .count + 65536 * i .length)
-    ∷ i .offset ∷ i .name .start ∷ i .name .units ∷ []
+    ∷ i .offset ∷ i .name .start ∷ i .name .units ∷ endedWord (i .name) ∷ []
 
 -- one table, or none
 abbrev pub or-else : List Table → List Table → List Table

@@ -1,6 +1,7 @@
 -- Names. "offset 0 is absent. Else the offset within the blob (5), a u32 size there (1) of at least 4 (3) that counts itself,
 -- all within the blob (1). Text is little-endian 16-bit units up to the first zero unit or the end; an unpaired surrogate
--- before that is 6. Start is offset + 4; units are the text's." (layouts)
+-- before that is 6. Start is offset + 4; units are the text's." (layouts). "The name answer must say whether one ended it", a zero unit
+-- (request 04)
 use Prim.Native.Nat.{ℕ, zero, suc, _+_, _-_, _/_, _%_}
 use mathlib.Core.Bool.{Bool, true, false, not, _&&_}
 use lib.Dec.{leb, ltb, eqb}
@@ -16,7 +17,7 @@ high u = leb 0xD800 u && ltb u 0xDC00
 abbrev pub low : ℕ → Bool
 low u = leb 0xDC00 u && ltb u 0xE000
 
--- "Fields a kind lacks, and an absent name's start and units, are 0" (the lists)
+-- "Fields a kind lacks, and an absent name's start and units, are 0" (the lists); "0 for an absent name" (request 04)
 abbrev pub absent : Name
 absent = record { start = 0; units = 0; ended = false }
 

@@ -90,11 +90,11 @@ pub mod width {
 
     pub const TABLES: usize = 9;
 
-    pub const DEFINITIONS: usize = 12;
+    pub const DEFINITIONS: usize = 13;
 
     pub const EVENTS: usize = 16;
 
-    pub const MAPS: usize = 11;
+    pub const MAPS: usize = 12;
 
     pub const ENTRIES: usize = 2;
 
@@ -102,7 +102,7 @@ pub mod width {
 
     pub const UNKNOWN: usize = 4;
 
-    pub const ITEMS: usize = 9;
+    pub const ITEMS: usize = 10;
 }
 
 // No entry has more words.

@@ -5,6 +5,7 @@ use native.Mathlib.Omega.{arith}
 use mathlib.Core.Path.{_≡_, refl, ap, sym, _∙_}
 use mathlib.Core.Bool.{Bool, true, false}
 use mathlib.Core.List.{List, [], _∷_}
+use mir.Val.{boolByte}
 use lib.Dec.{eqb}
 use lib.ListN.{length}
 use borrow.Author.Tests.{le-leb, lt-leb, leb-true}
@@ -21,6 +22,7 @@ use Rattle.format.specs.Definition.{step}
 use Rattle.format.specs.Item.{Item, itemNameAt, itemAt, itemsStart, itemsFrom}
 use Rattle.format.specs.Lists.{itemWords}
 use Rattle.format.specs.declared.Name.{Name}
+use Rattle.name.specs.Ended.{ended-cast}
 
 -- two numbers one behind the other are one: the first is its low part
 pub le-parts : (v w : ℕ) (s : List ℕ) (p : ℕ) → le (v + w) s p ≡ le v s p + 256 ^ v * le w s (p + v)
@@ -69,12 +71,12 @@ module _ (temp e at : ℕ) (s : List ℕ) where
   -- its words, with those that stand together
   pub item-words : (number : ℕ) (i : Item) → run (itemAt temp e at) s ≡ done i → (name : Name) → run (nameAt (until e) template-item-name (le 4 s (at + 16))) s ≡ done name
       → itemWords number i
-      ≡ number ∷ le 4 s at ∷ le 2 s (at + 4) ∷ le 2 s (at + 6) ∷ le 4 s (at + 8) ∷ le 4 s (at + 12) ∷ le 4 s (at + 16) ∷ name .start ∷ name .units ∷ []
+      ≡ number ∷ le 4 s at ∷ le 2 s (at + 4) ∷ le 2 s (at + 6) ∷ le 4 s (at + 8) ∷ le 4 s (at + 12) ∷ le 4 s (at + 16) ∷ name .start ∷ name .units ∷ boolByte (name .ended) ∷ []
   item-words number i h name g =
       let x = item-is i h in
       let types : le 2 s (at + 4) ≡ le 1 s (at + 4) + 256 * le 1 s (at + 5) = le-parts 1 1 s (at + 4) ∙ ap (λ p. le 1 s (at + 4) + 256 * le 1 s p) (omega arith) in
       let range : le 4 s (at + 12) ≡ le 2 s (at + 12) + 65536 * le 2 s (at + 14) = le-parts 2 2 s (at + 12) ∙ ap (λ p. le 2 s (at + 12) + 65536 * le 2 s p) (omega arith) in
-      rw (x .0, same _ _ (sym (x .1) ∙ g), types, range)
+      rw (x .0, same _ _ (sym (x .1) ∙ g), types, range, ended-cast name)
 
   pub name-fine : verdict (run (itemAt temp e at) s) ≡ verdicts.Fine → verdict (run (nameAt (until e) template-item-name (le 4 s (at + 16))) s) ≡ verdicts.Fine
   name-fine v = let i = fine-value _ v in ap verdict (item-is (i .0) (i .1) .1)

@@ -92,6 +92,7 @@ fn put(b: &[u8], temp: u32, end: usize, at: usize, number: u32, area: &mut [u32]
         offset,
         name.start,
         name.units,
+        name.ended as u32,
     ];
     words::put(area, to, &entry);
 }

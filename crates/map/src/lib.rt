@@ -228,6 +228,7 @@ fn put_map(area: &mut [u32], to: usize, before: u32, m: Map)
         m.count,
         m.start,
         m.length,
+        m.name.ended as u32,
     ];
     words::put(area, to, &entry);
 }

@@ -103,16 +103,20 @@ table =
     ∷ record { bytes = T 52 40 0 75; row = refusal 5 85 75 116 0 }
     ∷ record { bytes = T 52 40 0 117; row = refusal 5 89 41 40 0 }
     ∷ record { bytes = T 52 40 1 0; row = refusal 4 88 88 1 0 }
-    -- U: T's entries, and an item of template 0 with the name at 140, one unit
-    ∷ record { bytes = U 1 116 0 136 8 0x41; row = with-item 0 136 140 1 }
+    -- U: T's entries, and an item of template 0 with the name at 140, one unit that a zero unit ends
+    ∷ record { bytes = U 1 116 0 136 8 0x41; row = with-item 0 136 140 1 1 }
+    -- a name without a zero unit, with nothing but one, and none
+    ∷ record { bytes = U 1 116 0 136 8 0x420041; row = with-item 0 136 140 2 0 }
+    ∷ record { bytes = U 1 116 0 136 6 0; row = with-item 0 136 140 0 1 }
+    ∷ record { bytes = U 1 116 0 0 8 0x41; row = with-item 0 0 0 0 0 }
     -- items past the TEMP
     ∷ record { bytes = U 2 116 0 136 8 0x41; row = refusal 1 137 116 40 28 }
     ∷ record { bytes = U 1 0 0 136 8 0x41; row = refusal 1 137 144 20 0 }
     -- the array as a whole before any name
     ∷ record { bytes = U 2 116 0 75 8 0x41; row = refusal 1 137 116 40 28 }
-    -- a name before the TEMP, and one over its header
+    -- a name before the TEMP, and one over its header, of size 4
     ∷ record { bytes = U 1 116 0 75 8 0x41; row = refusal 5 146 75 152 0 }
-    ∷ record { bytes = U 1 116 4 100 8 0x41; row = with-item 4 100 104 0 }
+    ∷ record { bytes = U 1 116 4 100 8 0x41; row = with-item 4 100 104 0 0 }
     -- a name past the TEMP, and at its end; a size under 4, and an odd one
     ∷ record { bytes = U 1 116 0 145 8 0x41; row = refusal 5 149 145 144 0 }
     ∷ record { bytes = U 1 116 0 144 8 0x41; row = refusal 1 149 144 4 0 }
@@ -161,9 +165,9 @@ table =
     whole : Row
     whole = accepted 116 52 (76 ∷ 40 ∷ 0 ∷ 0 ∷ 0 ∷ 0 ∷ 0 ∷ 0 ∷ 0 ∷ 0 ∷ 116 ∷ 0 ∷ []) 0 []
 
-    with-item : (guid offset start units : ℕ) → Row
-    with-item guid offset start units =
-        accepted 152 80 (76 ∷ 68 ∷ 1 ∷ 1 ∷ 116 ∷ 0 ∷ guid ∷ 0 ∷ 0 ∷ 0 ∷ 116 ∷ 0 ∷ []) 1 (0 ∷ 0 ∷ 0 ∷ 0 ∷ 0 ∷ 0 ∷ offset ∷ start ∷ units ∷ [])
+    with-item : (guid offset start units ended : ℕ) → Row
+    with-item guid offset start units ended =
+        accepted 152 80 (76 ∷ 68 ∷ 1 ∷ 1 ∷ 116 ∷ 0 ∷ guid ∷ 0 ∷ 0 ∷ 0 ∷ 116 ∷ 0 ∷ []) 1 (0 ∷ 0 ∷ 0 ∷ 0 ∷ 0 ∷ 0 ∷ offset ∷ start ∷ units ∷ ended ∷ [])
 
 -- every row is what the definition finds
 cases : map (λ c. found (c .bytes)) table ≡ map (λ c. c .row) table

@@ -1,25 +1,30 @@
--- Computed examples of what the proved cases do not reach: the lent words after a reading, 9, replaced tables, the fields of an
--- item, both lookups, the handle.
+-- Computed examples of what the proved cases do not reach: the lent words after a reading, 9, replaced tables, names that run out, the
+-- words of a definition and of a map, the fields of an item, both lookups, the handle.
 use Prim.Native.Nat.{ℕ}
 use mathlib.Core.Path.{_≡_, refl}
 use mathlib.Core.Bool.{true, false}
 use mathlib.Core.List.{List, [], _∷_, _++_, map}
 use lib.ListN.{length, replicate}
+use Rattle.blob.specs.Le.{le}
 use Rattle.blob.specs.Reading.{Outcome, done, refused, demand, run, _>>=_, number}
 use Rattle.blob.specs.Laid.{laid, flat}
 use Rattle.format.specs.Table.{CHAN, LEVL}
 use Rattle.format.specs.Entry.{TABLE-FIRST}
-use Rattle.format.specs.Name.{nameAt, absent}
+use Rattle.format.specs.Name.{text, sized, nameAt, absent}
+use Rattle.format.specs.Region.{blob-end, until, inside}
 use Rattle.format.specs.Item.{Item, itemNameAt, itemAt}
 use Rattle.format.specs.Template.{Template}
-use Rattle.format.specs.Map.{Mapped}
+use Rattle.format.specs.Map.{BMAP, otherMap, Mapped}
 use Rattle.format.specs.Provider.{Rows, definitions, events, maps, templates, Element, table, unknown}
 use Rattle.format.specs.Area.{PROVIDERS, TABLES, EVENTS, MAPS, TEMPLATES, GUIDS, rows, none, more}
-use Rattle.format.specs.Lists.{Entry, Owned, lastOf, kept, mapList, itemWords, itemList, tableEntries}
+use Rattle.format.specs.Lists.{Entry, Owned, lastOf, kept, mapList, definitionWords, mapWords, itemWords, itemList, tableEntries}
 use Rattle.format.specs.Answer.{areas, filled, moderate, own, too-small, with-room}
 use Rattle.format.specs.Lookup.{alike, among, byKey, byOffset, counts-fit, entriesFrom, guidsHeld, guidsOf, once, position, select, tableFits, tablesFit, wordOf}
 use Rattle.format.specs.Handle.{shown}
+use Rattle.format.specs.declared.Name.{Name}
 use Rattle.format.specs.declared.Event.{Event}
+use Rattle.format.specs.declared.Definition.{Definition}
+use Rattle.format.specs.declared.Map.{Map}
 use Rattle.format.specs.declared.MapEntry.{MapEntry}
 use Rattle.format.specs.declared.Key.{Key}
 use Rattle.format.specs.declared.TemplateFound.the-variants as template
@@ -68,6 +73,45 @@ first-entries : map (wordOf TABLE-FIRST) (tableEntries none (
 unfolding tableEntries
 first-entries = refl
 
+-- whether a zero unit ended a name: one of size 4, a lone zero unit, a text with one behind it, and a text that ran out
+abbrev a-name : ℕ → List ℕ → Outcome Name
+a-name size units = run (nameAt blob-end 0 1) (0 ∷ size ∷ 0 ∷ 0 ∷ 0 ∷ units)
+
+names-ended : a-name 4 [] ∷ a-name 6 (0 ∷ 0 ∷ []) ∷ a-name 8 (65 ∷ 0 ∷ 0 ∷ 0 ∷ []) ∷ a-name 8 (65 ∷ 0 ∷ 66 ∷ 0 ∷ []) ∷ []
+    ≡ done (record { start = 5; units = 0; ended = false })
+    ∷ done (record { start = 5; units = 0; ended = true })
+    ∷ done (record { start = 5; units = 1; ended = true })
+    ∷ done (record { start = 5; units = 2; ended = false })
+    ∷ []
+unfolding run _>>=_ number le demand nameAt sized inside text
+names-ended = refl
+
+-- a definition's words and a map's, each in its place, and the last one by the name
+abbrev a-definition : Name → Definition
+a-definition n =
+    record { kind = 1; low = 2; high = 3; message = 4; offset = 5; name = n; unknown = 8; mui = record { a = 9; b = 10; c = 11; d = 12 } }
+
+definition-words : map (λ e. definitionWords (a-definition (record { start = 6; units = 7; ended = e }))) (true ∷ false ∷ [])
+    ≡ (1 ∷ 2 ∷ 3 ∷ 4 ∷ 5 ∷ 6 ∷ 7 ∷ 8 ∷ 9 ∷ 10 ∷ 11 ∷ 12 ∷ 1 ∷ [])
+    ∷ (1 ∷ 2 ∷ 3 ∷ 4 ∷ 5 ∷ 6 ∷ 7 ∷ 8 ∷ 9 ∷ 10 ∷ 11 ∷ 12 ∷ 0 ∷ [])
+    ∷ []
+definition-words = refl
+
+nameless-definition : definitionWords (a-definition absent) ≡ 1 ∷ 2 ∷ 3 ∷ 4 ∷ 5 ∷ 0 ∷ 0 ∷ 8 ∷ 9 ∷ 10 ∷ 11 ∷ 12 ∷ 0 ∷ []
+nameless-definition = refl
+
+abbrev a-value-map : Name → Map
+a-value-map n = record { kind = 1; signature = 2; offset = 3; size = 4; string = 5; name = n; count = 9; start = 10; length = 11 }
+
+map-words : map (λ e. mapWords 8 (a-value-map (record { start = 6; units = 7; ended = e }))) (true ∷ false ∷ [])
+    ≡ (1 ∷ 2 ∷ 3 ∷ 4 ∷ 5 ∷ 6 ∷ 7 ∷ 8 ∷ 9 ∷ 10 ∷ 11 ∷ 1 ∷ [])
+    ∷ (1 ∷ 2 ∷ 3 ∷ 4 ∷ 5 ∷ 6 ∷ 7 ∷ 8 ∷ 9 ∷ 10 ∷ 11 ∷ 0 ∷ [])
+    ∷ []
+map-words = refl
+
+other-map-words : mapWords 8 (otherMap (until 20) 16 BMAP .map) ≡ 2 ∷ BMAP ∷ 16 ∷ 0 ∷ 0 ∷ 0 ∷ 0 ∷ 0 ∷ 0 ∷ 16 ∷ 4 ∷ 0 ∷ []
+other-map-words = refl
+
 -- an item's fields, each at its place and each in its word; and of which template it is one
 abbrev an-item : Item
 an-item = record { unknown1 = 1; input = 2; output = 3; unknown3 = 4; unknown4 = 5; count = 6; length = 7; offset = 0; name = absent }
@@ -76,7 +120,7 @@ item-fields : run (itemAt 0 20 0) (1 ∷ 0 ∷ 0 ∷ 0 ∷ 2 ∷ 3 ∷ 4 ∷ 0 �
 unfolding run _>>=_ number demand itemAt itemNameAt nameAt
 item-fields = refl
 
-item-words : itemWords 9 an-item ≡ 9 ∷ 1 ∷ 770 ∷ 4 ∷ 5 ∷ 458758 ∷ 0 ∷ 0 ∷ 0 ∷ []
+item-words : itemWords 9 an-item ≡ 9 ∷ 1 ∷ 770 ∷ 4 ∷ 5 ∷ 458758 ∷ 0 ∷ 0 ∷ 0 ∷ 0 ∷ []
 item-words = refl
 
 abbrev a-template : List Item → Template

@@ -14,7 +14,7 @@ name-of-requires c κs =
 returns : tie.Need-returns
 returns c i found =
     let p = c .before .before in
-    let x = p .before .before .before in
+    let x = p .before .before .before .before in
     let h = x .before .before in
     let n = h .before .before .before in
     let o = n .before .before .before .before in
@@ -28,5 +28,5 @@ pub put-spec : {M : Type 1} → statement M
 put-spec =
     tie.close (
     tie.spec (λ c. search needs) (λ c κs. search needs) name-of-requires (λ c κs. search needs) (λ c. search needs) (λ c κs. search needs) (λ c. search needs)
-    (λ c κs. search needs) (λ c. search needs) (λ c κs. search needs) (λ c. search needs) (λ c κs. search needs) (λ c. search needs) (λ c κs. search needs)
-    (λ c. search needs) returns)
+    (λ c κs. search needs) (λ c. search needs) (λ c κs. search needs) (λ c. search needs) (λ c κs. search needs) (λ c. search needs) (λ c. search needs)
+    (λ c κs. search needs) (λ c. search needs) returns)
