@@ -140,14 +140,28 @@ impl Lists<'_> {
         [start, word(part.len())]
     }
 
-    /// Start and units of a name, 0 and 0 for an absent one.
-    fn name(&self, offset: u32, name: &Option<String>) -> [u32; 2] {
+    /// Start and units of a name, and whether a zero unit ended it; 0, 0 and 0 for an absent one.
+    fn name(&self, offset: u32, name: &Option<String>) -> [u32; 3] {
         let Some(text) = name else {
-            return [0, 0];
+            return [0, 0, 0];
         };
         let units: Vec<u8> = text.encode_utf16().flat_map(u16::to_le_bytes).collect();
         let [start, bytes] = self.copied(offset + 4, &units);
-        [start, bytes / 2]
+        [start, bytes / 2, self.ended(offset, &units)]
+    }
+
+    /// 1 where a zero unit ended the name at an offset, which has this text, and 0 where it ran out.
+    /// The original doesn't keep it, but the name's size tells: only before a zero unit does a text
+    /// end short of it.
+    fn ended(&self, offset: u32, text: &[u8]) -> u32 {
+        let (size, name) = self.blob[offset as usize..].split_at(4);
+        let size = u32::from_le_bytes(size.try_into().expect("four bytes")) as usize;
+        let behind = &name[text.len()..size - 4];
+        assert!(
+            behind.is_empty() || behind.starts_with(&[0, 0]),
+            "the name at {offset} goes on behind its text"
+        );
+        u32::from(!behind.is_empty())
     }
 
     fn put<const N: usize>(&mut self, list: u32, entry: [u32; N]) {
@@ -253,7 +267,7 @@ impl Lists<'_> {
     }
 
     fn definition(&mut self, d: Definition) {
-        let [name_start, name_units] = self.name(d.name_offset, d.name);
+        let [name_start, name_units, name_ended] = self.name(d.name_offset, d.name);
         let [mui_1, mui_2, mui_3, mui_4] = d.mui;
         self.put(
             DEFINITIONS,
@@ -270,6 +284,7 @@ impl Lists<'_> {
                 mui_2,
                 mui_3,
                 mui_4,
+                name_ended,
             ],
         );
     }
@@ -400,7 +415,8 @@ impl Lists<'_> {
     fn map(&mut self, map: &MapDefinition) {
         match map {
             MapDefinition::ValueMap(v) => {
-                let [name_start, name_units] = self.name(v.map_string_offset, &v.map_string);
+                let [name_start, name_units, name_ended] =
+                    self.name(v.map_string_offset, &v.map_string);
                 let entries_end = v.offset + 16 + 8 * word(v.entries.len());
                 let [data_start, data_length] = self.kept(entries_end, v.trailing);
                 self.put(
@@ -417,6 +433,7 @@ impl Lists<'_> {
                         word(v.entries.len()),
                         data_start,
                         data_length,
+                        name_ended,
                     ],
                 );
                 for entry in &v.entries {
@@ -441,7 +458,7 @@ impl Lists<'_> {
         let [start, length] = self.kept(offset, data);
         self.put(
             MAPS,
-            [sort, signature, offset, 0, 0, 0, 0, 0, 0, start, length],
+            [sort, signature, offset, 0, 0, 0, 0, 0, 0, start, length, 0],
         );
     }
 
@@ -480,7 +497,7 @@ impl Lists<'_> {
     /// The items of the template with a number.
     pub fn items(&mut self, template: u32, items: &[TemplateItem]) {
         for item in items {
-            let [start, units] = self.name(item.name_offset, &item.name);
+            let [start, units, ended] = self.name(item.name_offset, &item.name);
             self.put(
                 ITEMS,
                 [
@@ -493,6 +510,7 @@ impl Lists<'_> {
                     item.name_offset,
                     start,
                     units,
+                    ended,
                 ],
             );
         }

@@ -8,6 +8,7 @@ pub mod differences;
 pub mod fields;
 pub mod joins;
 pub mod lists;
+pub mod names;
 pub mod tally;
 mod temp;
 

@@ -32,13 +32,13 @@ pub const ROWS: &[Row] = &[
     row(DESCRIPTORS, 3),
     row(UNKNOWN2, 1),
     row(TABLES, 9),
-    row(DEFINITIONS, 12),
+    row(DEFINITIONS, 13),
     row(EVENTS, 16),
-    row(MAPS, 11),
+    row(MAPS, 12),
     row(MAP_ENTRIES, 2),
     row(TEMPLATES, 12),
     row(UNKNOWN_ELEMENTS, 4),
-    row(ITEMS, 9),
+    row(ITEMS, 10),
 ];
 
 /// How many lists there are.

@@ -1,6 +1,9 @@
-//! cases: the answers to the cases of docs/FORMAT.md, held against what is said there of them, and the
-//! smallest inputs of docs/DIFFERENCES.md, which must stand there and differ as it says. Where the
-//! original answers otherwise, its answer comes too.
+//! cases: the answers to the cases of docs/FORMAT.md, held against what is said there of them; those to
+//! a name of each sort in each kind of entry, held against `named.rs`; and the smallest inputs of
+//! docs/DIFFERENCES.md, which must stand there and differ as it says. Where the original answers
+//! otherwise, its answer comes too.
+
+mod named;
 
 use std::process::ExitCode;
 
@@ -13,7 +16,10 @@ const DOCUMENT: &str = include_str!("../../docs/DIFFERENCES.md");
 
 fn main() -> ExitCode {
     let mut faults = Vec::new();
-    let (cases, expected) = (known::cases(), expected());
+    let cases = [known::cases(), known::named()].concat();
+    // The original answers all with each sort of name alike.
+    let named = named::expected().into_iter().map(|answer| (answer, None));
+    let expected: Vec<_> = expected().into_iter().chain(named).collect();
     assert_eq!(cases.len(), expected.len());
     for ((name, blob), (answer, case)) in cases.into_iter().zip(expected) {
         match told(name, &blob) {
@@ -70,10 +76,9 @@ fn told(name: &str, blob: &[u8]) -> Option<(Answer, Option<Case>)> {
 
 /// What docs/FORMAT.md says of the cases, in their order, and in which case the original differs.
 fn expected() -> Vec<(Answer, Option<Case>)> {
-    let mut named = u_accepted();
-    // The name is another, and empty.
-    named.lists[row_of(TEMPLATES)][6] = 4;
-    named.lists[row_of(ITEMS)][6..].copy_from_slice(&[100, 104, 0]);
+    // The name is another, of size 4.
+    let mut over_header = u_named([100, 104, 0, 0]);
+    over_header.lists[row_of(TEMPLATES)][6] = 4;
     vec![
         (refusal(1, 1, 0, 4, 0), None),
         (z_accepted(), None),
@@ -87,12 +92,15 @@ fn expected() -> Vec<(Answer, Option<Case>)> {
         (refusal(5, 85, 75, 116, 0), None),
         (refusal(5, 89, 41, 40, 0), None),
         (refusal(4, 88, 88, 1, 0), None),
-        (u_accepted(), None),
+        (u_named([136, 140, 1, 1]), None),
+        (u_named([136, 140, 2, 0]), None),
+        (u_named([136, 140, 0, 1]), None),
+        (u_named([0, 0, 0, 0]), None),
         (refusal(1, 137, 116, 40, 28), None),
         (refusal(1, 137, 116, 40, 28), None),
         (refusal(1, 137, 144, 20, 0), Some(Case::OffsetZero)),
         (refusal(5, 146, 75, 152, 0), Some(Case::NameBefore)),
-        (named, Some(Case::NameBeforeItemsEnd)),
+        (over_header, Some(Case::NameBeforeItemsEnd)),
         (refusal(5, 149, 145, 144, 0), Some(Case::NamePast)),
         (refusal(1, 149, 144, 4, 0), Some(Case::NamePlace)),
         (refusal(3, 149, 136, 3, 0), Some(Case::NamePlace)),
@@ -121,12 +129,13 @@ fn t_accepted() -> Answer {
     t
 }
 
-fn u_accepted() -> Answer {
+/// U, its item with these last words, which are the name's.
+fn u_named([offset, start, units, ended]: [u32; 4]) -> Answer {
     let mut u = t_accepted();
     u.first = 152;
     u.lists[row_of(TABLES)] = vec![0, 8, 64, 80, 0, 0, 1, 0, 0];
     u.lists[row_of(TEMPLATES)] = vec![76, 68, 1, 1, 116, 0, 0, 0, 0, 0, 116, 0];
-    u.lists[row_of(ITEMS)] = vec![0, 0, 0, 0, 0, 0, 136, 140, 1];
+    u.lists[row_of(ITEMS)] = vec![0, 0, 0, 0, 0, 0, offset, start, units, ended];
     u
 }
 

@@ -7,6 +7,8 @@
 //! different ways. Compared are all numbers of the answers and every lent word: those that must be
 //! written, and those that must be kept.
 //!
+//! Names that ended and names that ran out are counted where the words that say so are compared.
+//!
 //! In the lists of each accepted blob templates are looked up, by keys and by offsets, and compared
 //! with what the original finds; also in the lists of blobs that are made for it.
 
@@ -20,6 +22,7 @@ use std::thread;
 
 use answers::differences;
 use answers::lists::{EVENTS, ITEMS, LISTS, MAP_ENTRIES, ROWS, UNKNOWN2, row_of};
+use answers::names::Names;
 use answers::tally::Tally;
 use answers::{Answer, answer};
 use ducatfeather::raw;
@@ -31,7 +34,7 @@ use lending::{COUNTS, Lending, NUMBERS, Numbers, Reader};
 /// How many large blobs there are, whatever the count.
 const LARGE: u64 = 64;
 
-/// Among so many blobs each case and each list's shortage must come.
+/// Among so many blobs each case, each sort of name and each list's shortage must come.
 const ENOUGH: u64 = 20_000;
 
 /// Of so many blobs one more is made for joins; and some large ones, whatever the count.
@@ -74,7 +77,7 @@ fn main() -> ExitCode {
         total.by_code[8],
         total.by_code[9]
     );
-    print!("{}", total.tally);
+    print!("{}{}", total.tally, total.names);
     let joins = &total.joins;
     println!(
         "joins in these, in {} blobs made for joins and in {LARGE_JOINED} large ones: {} blobs with \
@@ -123,6 +126,7 @@ struct Totals {
     /// How often each list was too small.
     short: [u64; LISTS],
     tally: Tally,
+    names: Names,
     joins: joining::Totals,
 }
 
@@ -136,6 +140,7 @@ impl Totals {
         let theirs = other.by_code.iter().chain(&other.short);
         mine.zip(theirs).for_each(|(mine, theirs)| *mine += theirs);
         self.tally.add(&other.tally);
+        self.names.add(&other.names);
         self.joins.add(&other.joins);
         self
     }
@@ -146,6 +151,7 @@ impl Totals {
         let short = ROWS.iter().zip(self.short).filter(|(_, times)| *times == 0);
         cases
             .map(|case| case.to_string())
+            .chain(self.names.missing())
             .chain(short.map(|(row, _)| format!("list {} too small", row.number)))
             .collect()
     }
@@ -259,6 +265,10 @@ impl Worker {
         let compared = compared.map_err(|difference| format!("{difference}{}", shown(&blob)))?;
         self.totals.tally.count(&compared);
         let found = compared.answer;
+        // Where a list can't have the room that it needs, no word is compared.
+        if Lending::exact(&found.counts()).expected(&found)[0] == 0 {
+            self.totals.names.count(&blob, &found);
+        }
         let (is_large, index) = match source {
             Source::Any(index) => (false, index),
             Source::Large(index) => (true, index),

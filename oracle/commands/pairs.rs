@@ -1,11 +1,12 @@
 //! pairs COUNT SEED: which pairs of code and field the generator's blobs reach, held against the
-//! pairs that docs/FIELDS.md promises; and in which of the cases of docs/DIFFERENCES.md the original
-//! answers them otherwise.
+//! pairs that docs/FIELDS.md promises; in which of the cases of docs/DIFFERENCES.md the original
+//! answers them otherwise; and how many names ended and ran out in each kind of entry.
 
 use std::collections::BTreeMap;
 use std::process::ExitCode;
 
 use answers::differences;
+use answers::names::Names;
 use answers::tally::Tally;
 use answers::{fields, fields::Pair};
 use generator::Rng;
@@ -19,6 +20,7 @@ fn main() -> ExitCode {
 
     let mut reached: BTreeMap<Pair, u64> = BTreeMap::new();
     let mut tally = Tally::default();
+    let mut names = Names::default();
     for index in 0..count {
         let blob = generator::blob(&mut Rng::new(seed, index), generator::DAMAGED);
         let compared = std::panic::catch_unwind(|| differences::compare(&blob));
@@ -27,6 +29,7 @@ fn main() -> ExitCode {
                 let answer = &compared.answer;
                 *reached.entry((answer.code, answer.field)).or_default() += 1;
                 tally.count(&compared);
+                names.count(&blob, answer);
                 continue;
             }
             Ok(Err(difference)) => difference,
@@ -42,7 +45,7 @@ fn main() -> ExitCode {
     for (&(code, field), times) in &reached {
         println!("code {code} field {field}: {times}{}", text(field));
     }
-    print!("{tally}");
+    print!("{tally}{names}");
 
     let promised = fields::promised();
     let unreached: Vec<Pair> = promised
@@ -54,12 +57,13 @@ fn main() -> ExitCode {
         .into_keys()
         .filter(|pair| !promised.contains(pair))
         .collect();
-    let uncounted = tally.missing();
+    let cases = tally.missing().into_iter().map(|case| case.to_string());
+    let uncounted: Vec<String> = cases.chain(names.missing()).collect();
     if 2 * accepted < count {
         println!("under half of the blobs are accepted");
     }
-    for case in &uncounted {
-        println!("never came: {case}");
+    for what in &uncounted {
+        println!("never came: {what}");
     }
     if !unpromised.is_empty() {
         println!("not promised:{}", listed(&unpromised));

@@ -2,8 +2,9 @@
 //! print: the original's answers, one line each, and behind an accepted one a line for each list
 //! that has entries.
 //!
-//! The blobs are the cases of docs/FORMAT.md, for each pair of code and field the shortest generated
-//! one that has it, some accepted ones that are special, and some whose lent memory doesn't do.
+//! The blobs are the cases of docs/FORMAT.md, those with each sort of name, for each pair of code and
+//! field the shortest generated one that has it, some accepted ones that are special, and some whose
+//! lent memory doesn't do.
 //! A record has `RECORD` bytes: 32-bit little-endian numbers (the lengths of the name and of the
 //! blob, a capacity for each list), the name and the blob, each with zeros behind it up to its room.
 
@@ -73,7 +74,7 @@ fn main() -> ExitCode {
 
 /// All cases, or nothing if a pair has no blob that is short enough.
 fn cases(seed: u64) -> Option<Vec<Case>> {
-    let named = known::cases().into_iter();
+    let named = known::cases().into_iter().chain(known::named());
     let mut cases: Vec<Case> = named
         .map(|(name, blob)| answered(name.into(), blob))
         .collect();

@@ -51,7 +51,8 @@ fn main() -> ExitCode {
 fn sample(seed: u64) -> Vec<(Vec<u8>, Answer)> {
     let mut sample = Vec::new();
     let mut taken: BTreeMap<Trait, u32> = BTreeMap::new();
-    let named = known::cases().into_iter().map(|(_, blob)| blob);
+    let named = known::cases().into_iter().chain(known::named());
+    let named = named.map(|(_, blob)| blob);
     let smallest = known::smallest().into_iter();
     for blob in named.chain(smallest).chain(known::item_differences()) {
         let found = answer(&blob);

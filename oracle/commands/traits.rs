@@ -5,6 +5,7 @@ use answers::lists::{
     DEFINITIONS, DESCRIPTORS, EVENTS, ITEMS, MAP_ENTRIES, MAPS, PROVIDERS, ROWS, TABLES, TEMPLATES,
     UNKNOWN_ELEMENTS,
 };
+use answers::names::{self, Name};
 
 /// A name of the trait and some numbers that tell it from others of that name.
 pub type Trait = (&'static str, [u32; 4]);
@@ -74,7 +75,7 @@ fn accepted(blob: &[u8], answer: &Answer) -> Vec<Trait> {
     }
     for definition in answer.entries(DEFINITIONS) {
         let absent = u32::from(definition[3] == u32::MAX);
-        let name = named(blob, definition[4], definition[5], definition[6]);
+        let name = named(blob, DEFINITIONS, definition);
         traits.push(("definition", [definition[0], absent, name, 0]));
         traits.push((
             "identifier",
@@ -92,7 +93,7 @@ fn accepted(blob: &[u8], answer: &Answer) -> Vec<Trait> {
         }
     }
     for map in answer.entries(MAPS) {
-        let name = named(blob, map[4], map[5], map[6]);
+        let name = named(blob, MAPS, map);
         traits.push(("map", [map[0], few(map[8].into()), few(map[10].into()), 0]));
         traits.push(("map's place", [map[0], name, few(map[7].into()), 0]));
     }
@@ -120,6 +121,7 @@ fn accepted(blob: &[u8], answer: &Answer) -> Vec<Trait> {
         ));
     }
     traits.extend(items(blob, answer));
+    traits.extend(long_names(blob, answer));
     for unknown in answer.entries(UNKNOWN_ELEMENTS) {
         traits.push((
             "unknown",
@@ -136,7 +138,7 @@ fn items(blob: &[u8], answer: &Answer) -> Vec<Trait> {
     let mut before: Option<&[u32]> = None;
     for item in answer.entries(ITEMS) {
         let template = templates[item[0] as usize];
-        let name = named(blob, item[6], item[7], item[8]);
+        let name = named(blob, ITEMS, item);
         traits.push(("item", [few(item[0].into()), name, 0, 0]));
         let [first, end] = [template[4], template[4] + 20 * template[2]];
         let stands = match item[6] {
@@ -175,17 +177,22 @@ fn descriptors(answer: &Answer) -> Vec<Trait> {
     traits
 }
 
-/// What a name is like: absent, empty, ended by a zero unit or not, with pairs or without.
-fn named(blob: &[u8], offset: u32, start: u32, units: u32) -> u32 {
-    if offset == 0 {
-        return 0;
+/// What an entry's name is like: absent, empty, ended by a zero unit or not, with pairs or without.
+fn named(blob: &[u8], list: u32, entry: &[u32]) -> u32 {
+    match Name::of(list, entry) {
+        Some((_, name)) if name.offset != 0 => {
+            let pairs = u32::from(name.pairs(blob).any(|pair| pair));
+            1 + name.ended + 2 * pairs + 4 * few(name.units.into())
+        }
+        _ => 0,
     }
-    let [offset, start, units] = [offset, start, units].map(|word| word as usize);
-    let size = u32::from_le_bytes(blob[offset..offset + 4].try_into().expect("four bytes"));
-    let ended = u32::from(units < (size as usize - 4) / 2);
-    let highs = blob[start..start + 2 * units].chunks_exact(2);
-    let pairs = u32::from(highs.filter(|unit| unit[1] & 0xfc == 0xd8).count() > 0);
-    1 + ended + 2 * pairs + 4 * few(units as u64)
+}
+
+/// The forms of the long names.
+fn long_names(blob: &[u8], answer: &Answer) -> Vec<Trait> {
+    let forms = names::all(answer).filter_map(|(_, name)| name.form(blob));
+    let numbers = forms.map(|[end, past, pair]| [end as u32, past as u32, pair as u32, 0]);
+    numbers.map(|numbers| ("long name", numbers)).collect()
 }
 
 /// A number as far as a trait tells it from others: the small ones, the largest, the rest.

@@ -129,8 +129,10 @@ fn loose(draft: &mut Draft, rng: &mut Rng, count: usize) -> Temp {
         let any = rng.between(temp.start, draft.bytes.len() - 8);
         let at = rng.pick(&[temp.start + 20, item, any]);
         if free(&kept, &(at..at + 8)) {
+            // No unit, one or two, and each may be zero.
+            let units = [rng.pick(&[0, 0x41, 0x42]), rng.pick(&[0, 0x41, 0x42])];
             draft.set(at, rng.pick(&[4, 6, 8]));
-            draft.set(at + 4, rng.between(0x20, 0x7e) as u32);
+            draft.set(at + 4, units[0] + 65_536 * units[1]);
             names.push(at as u32);
             kept.push(at..at + 8);
         }

@@ -1,6 +1,8 @@
-//! Blobs that have a name: those of docs/FORMAT.md, and some that lie at a limit.
+//! Blobs that have a name: those of docs/FORMAT.md, those with each sort of name in them, and some that
+//! lie at a limit.
 
 use crate::draft::Draft;
+pub use crate::named::named;
 pub use crate::small::{t, u, with, z};
 
 /// The blobs of the cases of docs/FORMAT.md, in their order.
@@ -23,6 +25,15 @@ pub fn cases() -> Vec<(&'static str, Vec<u8>)> {
         ("T with items offset 117", with(&t, 92, 117)),
         ("T with name count 1", with(&t, 88, 1)),
         ("U", u.clone()),
+        (
+            "U with a name without a zero unit",
+            with(&u, 140, 0x42_0041),
+        ),
+        (
+            "U with a lone zero unit as its name",
+            with(&with(&u, 136, 6), 140, 0),
+        ),
+        ("U with name offset 0", with(&u, 132, 0)),
         ("U with item count 2", with(&u, 84, 2)),
         (
             "U with item count 2 and name offset 75",

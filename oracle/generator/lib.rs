@@ -11,6 +11,7 @@ pub mod joins;
 pub mod known;
 pub mod large;
 mod maps;
+mod named;
 mod names;
 mod rng;
 mod shape;

@@ -13,8 +13,13 @@ pub fn write(draft: &mut Draft, rng: &mut Rng) -> u32 {
         // No zero unit at the end, which an empty name, of size 4, lacks too.
         0 => {}
         1 => units.clear(),
-        // What follows the zero unit is not read, not even a lone surrogate.
-        2 => units.extend([0, 0xd800, 0x41]),
+        // What follows the zero unit is not read, neither a lone surrogate nor a second zero unit.
+        2 => {
+            units.push(0);
+            for _ in 0..rng.between(1, 5) {
+                units.push(rng.pick(&[0xd800, 0xdc00, 0x41, 0x42, 0]));
+            }
+        }
         // A second name within the first; its size's upper half ends the first.
         3 => return nested(draft, rng, units),
         _ => units.push(0),
@@ -24,7 +29,7 @@ pub fn write(draft: &mut Draft, rng: &mut Rng) -> u32 {
     at
 }
 
-/// Writes a good name of so many units, a zero unit excepted, and gives its offset.
+/// Writes a good name of so many units, at times with a zero unit behind them, and gives its offset.
 pub fn long(draft: &mut Draft, rng: &mut Rng, units: usize) -> u32 {
     let mut text = Vec::with_capacity(units + 1);
     while text.len() < units {
@@ -34,14 +39,16 @@ pub fn long(draft: &mut Draft, rng: &mut Rng, units: usize) -> u32 {
             text.push(rng.between(0x20, 0x17f) as u16);
         }
     }
-    text.push(0);
+    if rng.chance(70) {
+        text.push(0);
+    }
     let at = sized(draft, &text);
     draft.names.push(at);
     at
 }
 
 /// Writes a name that ends at a length of the draft, and gives its offset. At times its last unit
-/// is zero, and at times half of a pair.
+/// is zero, at times there is a pair last, and at times half of one.
 pub fn filling(draft: &mut Draft, rng: &mut Rng, length: usize) -> u32 {
     if !(length - draft.bytes.len()).is_multiple_of(2) {
         draft.bytes.push(0);
@@ -57,9 +64,16 @@ pub fn filling(draft: &mut Draft, rng: &mut Rng, length: usize) -> u32 {
     while draft.bytes.len() < length {
         draft.put(&[0x41, 0]);
     }
-    if rng.chance(50) {
-        let last: u16 = rng.pick(&[0, 0, 0xd800, 0xdc00]);
-        draft.bytes[length - 2..].copy_from_slice(&last.to_le_bytes());
+    let last: &[u16] = match rng.below(8) {
+        0..=2 => &[],
+        3 | 4 => &[0],
+        5 => &[0xd83d, 0xde00],
+        6 => &[0xd800],
+        _ => &[0xdc00],
+    };
+    for (unit, from_end) in last.iter().rev().zip(1..) {
+        let place = length - 2 * from_end;
+        draft.bytes[place..place + 2].copy_from_slice(&unit.to_le_bytes());
     }
     at
 }
@@ -108,8 +122,19 @@ pub fn past(rng: &mut Rng) -> u32 {
     rng.pick(&[1, 1, 1, 2, 3, 4, 100, 0x7fff_ffff, u32::MAX])
 }
 
+/// At most 16 units.
 fn text(rng: &mut Rng) -> Vec<u16> {
     let mut units = Vec::new();
+    // At times low units alone, which may be read four at a time, and at times a pair behind them.
+    if rng.chance(20) {
+        for _ in 0..rng.between(4, 14) {
+            units.push(rng.between(0x20, 0x7e) as u16);
+        }
+        if rng.chance(40) {
+            units.extend([0xd83d, 0xde00 + rng.below(64) as u16]);
+        }
+        return units;
+    }
     for _ in 0..rng.below(9) {
         match rng.below(6) {
             0 => {
