@@ -123,7 +123,8 @@ fn ten_items(w: &mut Writer, temp: u32, template: u32) {
         let number = 10 * template + item;
         let letter = move |i| 'a' as u16 + ((number + i) % 26) as u16;
         let units = 5 + number.wrapping_mul(0x9e37_79b9) % 16;
-        ([0, 0x0808, 0, 0x0004_0001], (0..units).map(letter))
+        let name = (0..units).map(letter).chain([0]);
+        ([0, 0x0808, 0, 0x0004_0001], name)
     });
     w.named_items(temp, items);
 }

@@ -66,10 +66,14 @@ impl Writer {
 
     /// A name of these units and a zero unit; gives its place.
     pub fn name(&mut self, units: impl Iterator<Item = u16>) -> u32 {
+        self.name_of(units.chain([0]))
+    }
+
+    /// A name of these units alone, which runs out if none of them is zero; gives its place.
+    pub fn name_of(&mut self, units: impl Iterator<Item = u16>) -> u32 {
         let place = self.here();
         self.words(&[0]);
         self.bytes.extend(units.flat_map(u16::to_le_bytes));
-        self.bytes.extend([0, 0]);
         self.set(place, self.here() - place);
         place
     }
@@ -130,7 +134,7 @@ impl Writer {
     }
 
     /// The items of the TEMP at a place, each with a name: the words of each but for the last,
-    /// which is its name's place, and behind all of them the names.
+    /// which is its name's place, and behind all of them the names, of these units alone.
     pub fn named_items<N: Iterator<Item = u16>>(
         &mut self,
         temp: u32,
@@ -144,7 +148,7 @@ impl Writer {
             self.words(&[0]);
         }
         for (number, name) in (0..).zip(names) {
-            let name = self.name(name);
+            let name = self.name_of(name);
             self.set(array + 20 * number + 16, name);
         }
     }

@@ -131,6 +131,9 @@ enum {
 /* An entry of each list: 32-bit words and nothing between them. docs/FORMAT.md (The lists) says what they mean. Numbers of entries
  * count from 0.
  *
+ * A name's units end before its first zero unit. Where there is none they run out with the name's size, and the text may not be
+ * complete: name_ended tells which.
+ *
  * An entry is reached by copying it from the lent words into its struct, with ducat_entry or with memcpy; that is right in C and
  * in C++. A pointer to the words that is cast to one to the struct is not: in C++ there is no such object to point to. */
 
@@ -180,6 +183,7 @@ struct ducat_definition {
     uint32_t name_units;
     uint32_t unknown;
     struct ducat_guid mui;
+    uint32_t name_ended;      /* 1 if a zero unit ended the name; 0 if it ran out, and if there is none */
 };
 
 struct ducat_event {
@@ -213,6 +217,7 @@ struct ducat_map {
     uint32_t entry_count;
     uint32_t data_start;
     uint32_t data_length;
+    uint32_t name_ended;      /* as a definition's; only a VMAP has a name */
 };
 
 struct ducat_map_entry {
@@ -249,6 +254,7 @@ struct ducat_item {
     uint32_t name_offset;
     uint32_t name_start;
     uint32_t name_units;
+    uint32_t name_ended;      /* as a definition's */
 };
 
 /* What an event is looked up by: a provider's GUID and the first fields of an event. Copied with memcpy into DUCAT_KEY_WORDS
@@ -271,13 +277,13 @@ enum {
     DUCAT_DESCRIPTOR_WORDS = 3,
     DUCAT_UNKNOWN2_WORDS = 1,
     DUCAT_TABLE_WORDS = 9,
-    DUCAT_DEFINITION_WORDS = 12,
+    DUCAT_DEFINITION_WORDS = 13,
     DUCAT_EVENT_WORDS = 16,
-    DUCAT_MAP_WORDS = 11,
+    DUCAT_MAP_WORDS = 12,
     DUCAT_MAP_ENTRY_WORDS = 2,
     DUCAT_TEMPLATE_WORDS = 12,
     DUCAT_UNKNOWN_ELEMENT_WORDS = 4,
-    DUCAT_ITEM_WORDS = 9,
+    DUCAT_ITEM_WORDS = 10,
     DUCAT_GUID_WORDS = 4,
     DUCAT_KEY_WORDS = 12
 };

@@ -51,6 +51,9 @@ struct Provider {
     events: &'static [Event],
 }
 
+/// Names that no zero unit ends: a task's, and an item's.
+const RUN_OUT: [&str; 2] = ["RopeInspected", "Inspector"];
+
 const LEVELS: [&str; 3] = ["win:Error", "win:Warning", "win:Informational"];
 
 const PROVIDERS: [Provider; 3] = [
@@ -159,7 +162,7 @@ fn write(w: &mut Writer, message: u32, provider: &Provider, told: &mut Told) -> 
         vec![1 << (i - 1), 0, message + 0x100 + i, name]
     });
     for map in provider.maps {
-        let name = w.name(map.encode_utf16());
+        let name = w.name_of(units(map));
         elements.push(w.maps(1, 4, name));
     }
     let table = w.open(b"EVNT");
@@ -206,10 +209,7 @@ fn table(
     if names.is_empty() {
         return Vec::new();
     }
-    let names: Vec<u32> = names
-        .iter()
-        .map(|name| w.name(name.encode_utf16()))
-        .collect();
+    let names: Vec<u32> = names.iter().map(|name| w.name_of(units(name))).collect();
     let place = w.open(signature);
     w.words(&[names.len() as u32]);
     let mut records = Vec::new();
@@ -256,10 +256,7 @@ fn templates(
         w.bytes.extend(&binxml);
         let items = values.iter().map(|&(name, Type(input, output, length))| {
             let types = u32::from_le_bytes([input, output, 0, 0]);
-            (
-                [0, types, 0, 1 | u32::from(length) << 16],
-                name.encode_utf16(),
-            )
+            ([0, types, 0, 1 | u32::from(length) << 16], units(name))
         });
         w.named_items(temp, items);
         w.end(temp);
@@ -275,14 +272,28 @@ fn templates(
 
 /// The fields of a template, as the Rust crate's example shows them, and where FIELD is among them.
 fn fields(temp: u32, values: Values) -> String {
-    let names: Vec<&str> = values.iter().map(|value| value.0).collect();
-    let mut lines = format!("template {temp}: {}\n", names.join(" "));
-    if let Some(number) = names.iter().position(|&name| name == FIELD) {
+    let shown: Vec<String> = values.iter().map(|value| shown(value.0)).collect();
+    let mut lines = format!("template {temp}: {}\n", shown.join(" "));
+    if let Some(number) = values.iter().position(|value| value.0 == FIELD) {
         let Type(input, output, length) = values[number].1;
         lines +=
             &format!("  {FIELD}: field {number}, types {input} and {output}, length {length}\n");
     }
     lines
+}
+
+/// A name's units, with the zero unit that ends it unless it is to run out.
+fn units(name: &str) -> impl Iterator<Item = u16> {
+    name.encode_utf16().chain(ended(name).then_some(0))
+}
+
+/// A name as it is shown: one that runs out is marked.
+fn shown(name: &str) -> String {
+    format!("{name}{}", if ended(name) { "" } else { " (ran out)" })
+}
+
+fn ended(name: &str) -> bool {
+    !RUN_OUT.contains(&name)
 }
 
 /// The BinXML of `<EventData><Data Name="NAME">VALUE</Data>..</EventData>`.

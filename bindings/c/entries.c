@@ -85,13 +85,14 @@ static void tables(const struct lending *l) {
 static void definitions(const struct lending *l) {
     struct ducat_definition d;
     check(ENTRY(l, DUCAT_LIST_DEFINITIONS, 0, d) && d.kind == DUCAT_CHAN && d.identifier_high == 0 && d.message == 22 &&
-          d.name_offset == FULL_NAME && d.name_start == FULL_NAME + 4 && d.name_units == 1 && d.unknown == 21, "a CHAN's fields");
+          d.name_offset == FULL_NAME && d.name_start == FULL_NAME + 4 && d.name_units == 1 && d.unknown == 21 && d.name_ended == 1,
+          "a CHAN's fields");
     check(ENTRY(l, DUCAT_LIST_DEFINITIONS, 1, d) && d.kind == DUCAT_KEYW && d.identifier_high == 23 && d.message == 24,
           "a KEYW's fields");
     check(ENTRY(l, DUCAT_LIST_DEFINITIONS, 2, d) && d.kind == DUCAT_LEVL, "a LEVL's fields");
     check(ENTRY(l, DUCAT_LIST_DEFINITIONS, 3, d) && d.kind == DUCAT_OPCO, "an OPCO's fields");
-    check(ENTRY(l, DUCAT_LIST_DEFINITIONS, 4, d) && d.kind == DUCAT_TASK && d.message == 25 && rising(&d.mui, 26),
-          "a TASK's fields");
+    check(ENTRY(l, DUCAT_LIST_DEFINITIONS, 4, d) && d.kind == DUCAT_TASK && d.message == 25 && rising(&d.mui, 26) &&
+          d.name_ended == 0, "a TASK's fields");
 }
 
 static void event(const struct lending *l) {
@@ -107,11 +108,60 @@ static void maps(const struct lending *l) {
     check(ENTRY(l, DUCAT_LIST_MAPS, 0, m) && m.kind == DUCAT_VMAP && m.signature == 0x50414d56 &&
           m.size == 16 + 8 * full_count(DUCAT_LIST_MAP_ENTRIES) + 4 && m.string_offset == FULL_NAME && m.name_start == FULL_NAME + 4 &&
           m.name_units == 1 && m.first_entry == 0 && m.entry_count == full_count(DUCAT_LIST_MAP_ENTRIES) &&
-          m.data_start == m.offset + m.size - 4 && m.data_length == 4, "a VMAP's fields");
+          m.data_start == m.offset + m.size - 4 && m.data_length == 4 && m.name_ended == 1, "a VMAP's fields");
     uint32_t behind = m.offset + m.size;
-    check(ENTRY(l, DUCAT_LIST_MAPS, 1, m) && m.kind == DUCAT_BMAP && m.offset == behind && m.data_start == behind && m.data_length == 4,
-          "a BMAP's fields");
-    check(ENTRY(l, DUCAT_LIST_MAPS, 2, m) && m.kind == DUCAT_OTHER_MAP && m.offset == behind + 4, "another map's fields");
+    check(ENTRY(l, DUCAT_LIST_MAPS, 1, m) && m.kind == DUCAT_BMAP && m.offset == behind && m.data_start == behind && m.data_length == 4 &&
+          m.name_ended == 0, "a BMAP's fields");
+    check(ENTRY(l, DUCAT_LIST_MAPS, 2, m) && m.kind == DUCAT_OTHER_MAP && m.offset == behind + 4 && m.name_ended == 0,
+          "another map's fields");
+}
+
+/* The sorts of names that the one at FULL_NAME can be: its size, and its units as one word; then how many are the text, and whether
+ * a zero unit ended it. Size 0 stands for none at all. */
+static const struct sort {
+    uint32_t size, letters, units, ended;
+    const char *what;
+} sorts[] = {
+    {8, 'N', 1, 1, "a name that a zero unit ends"},
+    {8, 'N' + ('O' << 16), 2, 0, "a name that runs out"},
+    {6, 'N', 1, 0, "a name that runs out before a zero unit"},
+    {4, 'N', 0, 0, "a name of no units"},
+    {6, 'O' << 16, 0, 1, "a name of a zero unit alone"},
+    {8, 'O' << 16, 0, 1, "a name that starts with a zero unit"},
+    {0, 0, 0, 0, "no name"},
+};
+
+/* The place of an element of the full block, by its descriptor's number. */
+static uint32_t element_at(const struct block *b, uint32_t number) {
+    return word_at(b->bytes, 56 + 8 * number);
+}
+
+/* Each definition of the full block, and its VMAP, with a name of that sort. */
+static void named(const struct sort *s) {
+    /* The descriptor of each definition's table, in list 5's order, and where its record has the name's offset. */
+    static const uint32_t records[][2] = {{0, 4}, {2, 12}, {3, 8}, {5, 8}, {6, 24}};
+    enum { DEFINITIONS = sizeof records / sizeof records[0], MAPS_DESCRIPTOR = 4 };
+    struct block b = block_full();
+    struct lending l = lend_each(full_count(DUCAT_LIST_DESCRIPTORS));
+    uint32_t offset = s->size == 0 ? 0 : FULL_NAME, start = s->size == 0 ? 0 : FULL_NAME + 4;
+    put(b.bytes, FULL_NAME, s->size);
+    put(b.bytes, FULL_NAME + 4, s->letters);
+    for (uint32_t i = 0; i < DEFINITIONS; i++)
+        put(b.bytes, element_at(&b, records[i][0]) + 12 + records[i][1], offset);
+    /* The VMAP stands behind the places of the two other maps. */
+    put(b.bytes, element_at(&b, MAPS_DESCRIPTOR) + 16 + 8 + 8, offset);
+    check(DEFINITIONS == full_count(DUCAT_LIST_DEFINITIONS) && ask_block(&l, &b) == DUCAT_ACCEPTED && others_kept(&l), s->what);
+
+    struct ducat_definition d;
+    for (uint32_t i = 0; i < DEFINITIONS; i++)
+        check(ENTRY(&l, DUCAT_LIST_DEFINITIONS, i, d) && d.name_offset == offset && d.name_start == start &&
+              d.name_units == s->units && d.name_ended == s->ended, s->what);
+    struct ducat_map m;
+    check(ENTRY(&l, DUCAT_LIST_MAPS, 0, m) && m.string_offset == offset && m.name_start == start && m.name_units == s->units &&
+          m.name_ended == s->ended, s->what);
+    for (uint32_t i = 1; i < full_count(DUCAT_LIST_MAPS); i++)
+        check(ENTRY(&l, DUCAT_LIST_MAPS, i, m) && m.name_start == 0 && m.name_units == 0 && m.name_ended == 0, "a map that has no name");
+    take_back(&l);
 }
 
 /* U, with something in each field of its template; the item starts four bytes later and has no name. */
@@ -152,4 +202,6 @@ void test_entries(void) {
     maps(&l);
     take_back(&l);
     template_of_u();
+    for (size_t i = 0; i < sizeof sorts / sizeof sorts[0]; i++)
+        named(&sorts[i]);
 }

@@ -107,6 +107,7 @@ static void found(const struct lending *l) {
                 expected.name_offset = t.items_offset + 20 * items_of[i];
                 expected.name_start = expected.name_offset + 4;
                 expected.name_units = 2 * items_of[i] - 1;
+                expected.name_ended = 1;
             }
             check(ducat_entry(l->words, l->capacities, DUCAT_LIST_ITEMS, number, &item, sizeof item) == 1 && same(&item, &expected),
                   "an item's words");
@@ -134,11 +135,11 @@ static void of_several(void) {
 }
 
 /* U, with the words given at places in it: its one item's name. */
-static int named(const uint32_t puts[][2], size_t count, uint32_t offset, uint32_t start, uint32_t units) {
+static int named(const uint32_t puts[][2], size_t count, uint32_t offset, uint32_t start, uint32_t units, uint32_t ended) {
     struct block u = block_u();
     struct lending l = lend_each(1);
     struct ducat_item item;
-    const struct ducat_item expected = {0, 0, 0, 0, 0, 0, offset, start, units};
+    const struct ducat_item expected = {0, 0, 0, 0, 0, 0, offset, start, units, ended};
     for (size_t i = 0; i < count; i++)
         put(u.bytes, puts[i][0], puts[i][1]);
     int right = ask_block(&l, &u) == DUCAT_ACCEPTED && others_kept(&l) && ducat_count(l.answer, DUCAT_LIST_ITEMS) == 1 &&
@@ -150,17 +151,21 @@ static int named(const uint32_t puts[][2], size_t count, uint32_t offset, uint32
 static void of_u(void) {
     const uint32_t none[][2] = {{132, 0}};
     const uint32_t empty[][2] = {{136, 4}};
+    const uint32_t lone[][2] = {{136, 6}, {140, 'A' << 16}};
     const uint32_t endless[][2] = {{136, 6}};
+    const uint32_t full[][2] = {{140, 'A' + ('B' << 16)}};
     const uint32_t in_header[][2] = {{132, 100}, {100, 6}, {104, 'B'}};
     const uint32_t over_all[][2] = {{132, 96}, {96, 48}, {100, 'B'}};
     const uint32_t names[][2] = {{88, UINT32_MAX}};
-    check(named(NULL, 0, 136, 140, 1), "U's item");
-    check(named(none, 1, 0, 0, 0), "an item without a name");
-    check(named(empty, 1, 136, 140, 0), "a name of no units");
-    check(named(endless, 1, 136, 140, 1), "a name without a zero unit");
-    check(named(in_header, 3, 100, 104, 1), "a name in the TEMP's header");
-    check(named(over_all, 3, 96, 100, 1), "a name that runs over the item");
-    check(named(names, 1, 136, 140, 1), "another number of names");
+    check(named(NULL, 0, 136, 140, 1, 1), "U's item");
+    check(named(none, 1, 0, 0, 0, 0), "an item without a name");
+    check(named(empty, 1, 136, 140, 0, 0), "a name of no units");
+    check(named(lone, 2, 136, 140, 0, 1), "a name of a zero unit alone");
+    check(named(endless, 1, 136, 140, 1, 0), "a name that runs out before a zero unit");
+    check(named(full, 1, 136, 140, 2, 0), "a name that runs out");
+    check(named(in_header, 3, 100, 104, 1, 0), "a name in the TEMP's header");
+    check(named(over_all, 3, 96, 100, 1, 1), "a name that runs over the item");
+    check(named(names, 1, 136, 140, 1, 1), "another number of names");
 
     struct block u = block_u();
     struct lending l = lend_each(1);

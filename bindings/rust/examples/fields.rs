@@ -16,6 +16,8 @@ fn fields(path: &str, name: &str) -> Result<(), Box<dyn std::error::Error>> {
         if let Some(item) = template.item_named(name) {
             let number = template.items().take_while(|&other| other != item).count();
             let (input, output, length) = (item.input_type, item.output_type, item.length);
+            // As the block has it, so that one that ran out is marked.
+            let name = item.name.expect("it was found by its name");
             println!("  {name}: field {number}, types {input} and {output}, length {length}");
         }
     }

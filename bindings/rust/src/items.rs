@@ -57,12 +57,15 @@ impl Item<'_> {
     /// ```
     ///
     /// These bytes are meant to be the block that was read. Of others it is what stands at the
-    /// name's place, and nothing if they end before.
+    /// name's place, and nothing if they end before; whether it ended is told of the block that
+    /// was read.
     pub fn name<'b>(&self, blob: &'b [u8]) -> Option<Name<'b>> {
-        let Part { start, bytes } = self.name?.part;
+        let Name { part, ended } = self.name?;
+        let Part { start, bytes } = part;
         let bytes = blob.get(start as usize..)?.get(..bytes.len())?;
         Some(Name {
             part: Part { start, bytes },
+            ended,
         })
     }
 }
@@ -74,7 +77,8 @@ impl<'a> Template<'a> {
     }
 
     /// Its item of this name; the first one, if there are several. Upper and lower case are not
-    /// the same.
+    /// the same. Names go by their text, whether they ended or ran out: [`Name::ended`] tells
+    /// which, and one that ran out may be the start of another name.
     ///
     /// ```
     /// # let blob = std::fs::read("../../samples/drive.crim")?;

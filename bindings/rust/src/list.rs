@@ -37,13 +37,13 @@ const TABLE: &[(List, usize, &str)] = &[
     (List::Descriptors, 3, "descriptors"),
     (List::Unknown2, 1, "unknown2 words"),
     (List::Tables, 9, "tables"),
-    (List::Definitions, 12, "definitions"),
+    (List::Definitions, 13, "definitions"),
     (List::Events, 16, "events"),
-    (List::Maps, 11, "maps"),
+    (List::Maps, 12, "maps"),
     (List::MapEntries, 2, "map entries"),
     (List::Templates, 12, "templates"),
     (List::UnknownElements, 4, "unknown elements"),
-    (List::Items, 9, "items"),
+    (List::Items, 10, "items"),
 ];
 
 /// How many lists there are.

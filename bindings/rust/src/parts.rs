@@ -83,48 +83,75 @@ impl fmt::Debug for Part<'_> {
     }
 }
 
-/// A name's text, in the block: 16-bit units. Shown, it is text.
+/// A name's text, in the block: 16-bit units. Shown, it is text, and ` (ran out)` behind it if no
+/// zero unit ended it: who wants the text alone takes [`chars`](Name::chars).
+///
+/// Compared with a `str`, a name is its text alone. Of two names with the same text in the same
+/// place, one that ended is not equal to one that ran out.
 #[derive(Clone, Copy, PartialEq, Eq, Hash)]
 #[non_exhaustive]
 pub struct Name<'a> {
     /// Where the units stand.
     pub part: Part<'a>,
+    pub(crate) ended: bool,
 }
 
 impl<'a> Name<'a> {
     /// The name of an entry; offset 0 says that there is none.
-    pub(crate) fn of(block: &'a [u8], offset: u32, start: u32, units: u32) -> Option<Name<'a>> {
+    pub(crate) fn of(
+        block: &'a [u8],
+        offset: u32,
+        start: u32,
+        units: u32,
+        ended: u32,
+    ) -> Option<Name<'a>> {
         (offset != 0).then(|| Name {
             part: Part::of(block, start, 2 * units),
+            ended: ended == 1,
         })
     }
 
-    /// The units, without the zero unit that may end them.
+    /// Whether a zero unit ended the name. One without it ran out where its size says, and may not
+    /// be complete, though nothing in its text tells.
+    pub fn ended(&self) -> bool {
+        self.ended
+    }
+
+    /// The units, without the zero unit that may end them. They are the text alone, whether it
+    /// ended or ran out.
     pub fn units(&self) -> impl Iterator<Item = u16> + use<'a> {
         let pairs = self.part.bytes.chunks_exact(2);
         pairs.map(|pair| u16::from_le_bytes([pair[0], pair[1]]))
     }
 
-    /// The characters. The reading refuses units that are none, so of the block that was read
-    /// nothing is replaced here.
+    /// The characters: the text alone, whether it ended or ran out. The reading refuses units that
+    /// are none, so of the block that was read nothing is replaced here.
     pub fn chars(&self) -> impl Iterator<Item = char> + use<'a> {
         char::decode_utf16(self.units()).map(|c| c.unwrap_or(char::REPLACEMENT_CHARACTER))
     }
 }
 
+/// What is shown behind the text of a name that ran out.
+const RAN_OUT: &str = " (ran out)";
+
+/// The text, marked if it ran out, so that nobody takes it for complete.
 impl fmt::Display for Name<'_> {
     fn fmt(&self, f: &mut fmt::Formatter<'_>) -> fmt::Result {
-        self.chars().try_for_each(|c| f.write_char(c))
+        self.chars().try_for_each(|c| f.write_char(c))?;
+        f.write_str(if self.ended { "" } else { RAN_OUT })
     }
 }
 
+/// The same with the text in quotes, and the mark behind them.
 impl fmt::Debug for Name<'_> {
     fn fmt(&self, f: &mut fmt::Formatter<'_>) -> fmt::Result {
-        write!(f, "{:?}", self.to_string())
+        write!(f, "{:?}", self.chars().collect::<String>())?;
+        f.write_str(if self.ended { "" } else { RAN_OUT })
     }
 }
 
-/// Unit by unit, so that a name is equal to no other text than its own.
+/// Unit by unit, so that a name is equal to no other text than its own; whether it ended or ran
+/// out is no part of that.
 impl PartialEq<str> for Name<'_> {
     fn eq(&self, text: &str) -> bool {
         self.units().eq(text.encode_utf16())

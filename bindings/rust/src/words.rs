@@ -152,13 +152,14 @@ impl<'a> FromWords<'a> for Definition<'a> {
             units,
             unknown,
             mui @ ..,
-        ] = exactly::<12>(&words);
+            ended,
+        ] = exactly::<13>(&words);
         Definition {
             kind: Kind::from_word(kind),
             identifier: long(low, high),
             message: message(text),
             name_offset: offset,
-            name: Name::of(words.source.block, offset, start, units),
+            name: Name::of(words.source.block, offset, start, units, ended),
             unknown,
             mui: Guid::from_words(mui),
         }
@@ -220,6 +221,7 @@ impl<'a> FromWords<'a> for Map<'a> {
             count,
             start,
             length,
+            ended,
         ] = exactly(&words);
         Map {
             kind: match kind {
@@ -231,7 +233,13 @@ impl<'a> FromWords<'a> for Map<'a> {
             offset,
             size,
             string_offset,
-            name: Name::of(words.source.block, string_offset, name_start, name_units),
+            name: Name::of(
+                words.source.block,
+                string_offset,
+                name_start,
+                name_units,
+                ended,
+            ),
             entries: numbers(first, count),
             data: Part::of(words.source.block, start, length),
         }
@@ -307,6 +315,7 @@ impl<'a> FromWords<'a> for Item<'a> {
             offset,
             start,
             units,
+            ended,
         ] = exactly(&words);
         // The narrow fields were read from one or two bytes.
         let [input_type, output_type, ..] = types.to_le_bytes();
@@ -320,7 +329,7 @@ impl<'a> FromWords<'a> for Item<'a> {
             count: count_and_length as u16,
             length: (count_and_length >> 16) as u16,
             name_offset: offset,
-            name: Name::of(words.source.block, offset, start, units),
+            name: Name::of(words.source.block, offset, start, units, ended),
         }
     }
 }

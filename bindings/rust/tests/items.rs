@@ -76,7 +76,10 @@ fn found(blob: &[u8], name: &str) -> Option<u32> {
 fn the_item_of_u() {
     let blob = u();
     let manifest = read(&blob).unwrap();
-    assert_eq!(manifest.words(List::Items), [0, 0, 0, 0, 0, 0, 136, 140, 1]);
+    assert_eq!(
+        manifest.words(List::Items),
+        [0, 0, 0, 0, 0, 0, 136, 140, 1, 1]
+    );
     let template = manifest.templates().next().unwrap();
     let item = template.items().next().unwrap();
     assert_eq!(item.name.unwrap(), "A");
@@ -173,7 +176,7 @@ fn absent_and_empty_names() {
     let manifest = read(&blob).unwrap();
     let names: Vec<Option<String>> = manifest
         .items()
-        .map(|item| item.name.map(|name| name.to_string()))
+        .map(|item| item.name.map(|name| name.chars().collect()))
         .collect();
     let texts = names.iter().map(Option::as_deref).collect::<Vec<_>>();
     assert_eq!(texts, [None, Some(""), None, Some("Metres"), Some("")]);
@@ -186,7 +189,7 @@ fn absent_and_empty_names() {
 
 #[test]
 fn a_name_out_of_the_block_itself() {
-    let blob = one(&[Some("Metres\0"), None]);
+    let blob = one(&[Some("Metres\0"), None, Some("Car")]);
     let names: Vec<_> = {
         let manifest = read(&blob).expect("accepted");
         let items = manifest.items();
@@ -199,7 +202,8 @@ fn a_name_out_of_the_block_itself() {
         .iter()
         .map(|name| name.map(|n| n.to_string()))
         .collect();
-    assert_eq!(texts, [Some("Metres".to_string()), None]);
+    let [metres, car] = ["Metres", "Car (ran out)"].map(|text| Some(text.to_string()));
+    assert_eq!(texts, [metres, None, car]);
     // Of bytes that end before it there is none.
     let manifest = read(&blob).expect("accepted");
     let item = manifest.items().next().expect("an item");
@@ -237,6 +241,18 @@ fn names_without_a_zero_unit() {
     assert_eq!(found(&blob, "Car"), Some(1));
     assert_eq!(found(&blob, "Car\0s"), None);
     assert_eq!(found(&blob, "Metre"), Some(2));
+    // The mark that one is shown with is no part of it either.
+    assert_eq!(found(&blob, "Metres (ran out)"), None);
+    // The first of several, whether it ended or ran out.
+    let [ended, unended] = ["Metres\0", "Metres"].map(Some);
+    for (names, first) in [([ended, unended], true), ([unended, ended], false)] {
+        let blob = one(&names);
+        let manifest = read(&blob).unwrap();
+        let template = manifest.templates().next().unwrap();
+        let item = template.item_named("Metres").unwrap();
+        assert_eq!(item.unknown1, 0);
+        assert_eq!(item.name.unwrap().ended(), first);
+    }
 }
 
 #[test]
