@@ -281,7 +281,7 @@ impl Worker {
             _ => self.totals.refused += 1,
         }
         self.lend_in_turn(&blob, &found, &mut rng)?;
-        // Roomy to the limit takes time: 23 megabytes of words.
+        // Roomy to the limit takes time: 24 megabytes of words.
         if is_large || index.is_multiple_of(5000) {
             self.read(&blob, &found, &Lending::most())?;
         }
