@@ -1,6 +1,7 @@
 -- The join of what was read, on providers, events and templates: what the lookup by key is to find, with no word of areas, lists or
--- numbers of entries. "It takes the first provider with that GUID .. Its events with that key, a template offset and a found template
--- give template GUIDs, each once, in first-seen order" (finding a template)
+-- numbers of entries. "Its events with that key, a template offset and a found template give template GUIDs, each once, in first-seen
+-- order" (finding a template); "The key lookup now goes through all providers with that GUID, in order, each event resolved in its own
+-- provider's templates, GUIDs still given once." (request 02)
 use mathlib.Core.Bool.{Bool, not, _&&_}
 use mathlib.Core.List.{List, [], _∷_, map}
 use lib.ListN.{take}
@@ -40,7 +41,9 @@ asked k e =
 abbrev pub templateGuid : List Template → Event → List Entry
 templateGuid ts e = map (λ t. guidWords (t .guid)) (the-first (λ t. eqb (t .offset) (e .template)) ts)
 
+-- the GUIDs of the templates of a provider's events with a key
+abbrev pub guidsFrom : Key → Provider → List Entry
+guidsFrom k p = flat (templateGuid (templatesOf p)) (those (asked k) (eventsOf p))
+
 unfoldable pub join : List Provider → Key → List Entry
-join ps k =
-    flat (λ p. once [] (flat (templateGuid (templatesOf p)) (those (asked k) (eventsOf p))))
-    (the-first (λ p. alike (guidWords (p .guid)) (guidWords (k .guid))) ps)
+join ps k = once [] (flat (guidsFrom k) (those (λ p. alike (guidWords (p .guid)) (guidWords (k .guid))) ps))

@@ -48,6 +48,11 @@ unfoldable pub position : (Entry → Bool) → ℕ → List Entry → List ℕ
 position p n [] = []
 position p n (e ∷ es) = choose (p e) (n ∷ []) (position p (suc n) es)
 
+-- the numbers of all that it picks
+unfoldable pub positions : (Entry → Bool) → ℕ → List Entry → List ℕ
+positions p n [] = []
+positions p n (e ∷ es) = choose (p e) (n ∷ positions p (suc n) es) (positions p (suc n) es)
+
 -- "By offset: given a first entry and a count, the number in list 9 of the lowest template entry in that range whose offset is equal,
 -- or none exactly if none is. A range past the list is 10."
 abbrev pub numbered : List ℕ → TemplateFound
@@ -108,14 +113,18 @@ keyed k e = alike (take KEY e) (keyWords k) && not (eqb (wordOf EVENT-TEMPLATE e
 abbrev pub guidAtOffset : List Entry → ℕ → List Entry
 guidAtOffset ts offset = map (λ t. take GUID (drop TEMPLATE-GUID t)) (take 1 (select (λ t. eqb (wordOf TEMPLATE-OFFSET t) offset) ts))
 
--- "It takes the first provider with that GUID .. Its events with that key, a template offset and a found template give template GUIDs"
+-- "Its events with that key, a template offset and a found template give template GUIDs": those of a provider, by its number, "each event
+-- resolved in its own provider's templates" (request 02)
+abbrev pub guidsOfProvider : List ℕ → List ℕ → List ℕ → Key → ℕ → List Entry
+guidsOfProvider words capacities counts key p =
+    let tables = entriesOf words capacities counts TABLES in
+    let ts = ownedBy tables p TTBL (entriesOf words capacities counts TEMPLATES) in
+    flat (λ e. guidAtOffset ts (wordOf EVENT-TEMPLATE e)) (select (keyed key) (ownedBy tables p EVNT (entriesOf words capacities counts EVENTS)))
+
+-- "The key lookup now goes through all providers with that GUID, in order, .. GUIDs still given once." (request 02)
 unfoldable pub guidsOf : List ℕ → List ℕ → List ℕ → Key → List Entry
 guidsOf words capacities counts key =
-    let tables = entriesOf words capacities counts TABLES in
-    flat (λ p.
-    let ts = ownedBy tables p TTBL (entriesOf words capacities counts TEMPLATES) in
-    once [] (flat (λ e. guidAtOffset ts (wordOf EVENT-TEMPLATE e)) (select (keyed key) (ownedBy tables p EVNT (entriesOf words capacities counts EVENTS)))))
-    (position (λ p. alike (take GUID p) (guidWords (key .guid))) 0 (entriesOf words capacities counts PROVIDERS))
+    once [] (flat (λ p. guidsOfProvider words capacities counts key p) (positions (λ p. alike (take GUID p) (guidWords (key .guid))) 0 (entriesOf words capacities counts PROVIDERS)))
 
 -- "By key .. into a lent list of 4-word entries (9, list number 11, if short)"; "A list lent singly has as capacity its length over its
 -- entry's words, rounded down." (the answer)

@@ -1,5 +1,5 @@
 -- What the code speaks of: runs of entries, what is found in them, and whether lists fit together.
-use Prim.Native.Nat.{ℕ, _+_, _*_, _≤_}
+use Prim.Native.Nat.{ℕ, _+_, _*_, _-_, _≤_}
 use mathlib.Core.Path.{_≡_}
 use mathlib.Core.Bool.{Bool, true, _&&_}
 use mathlib.Core.List.{List, [], _∷_}
@@ -29,6 +29,10 @@ few width r words = (r .start + width * (r .first + r .count) ≤ length words) 
 -- a whole list, by its row
 abbrev pub runOf : List ℕ → List ℕ → ℕ → Run
 runOf capacities counts row = record { start = areas rows (take row capacities); first = 0; count = getD counts row 0 }
+
+-- those of a run that are behind one of them, by its number
+abbrev pub behind : Run → ℕ → Run
+behind r n = record { start = r .start; first = n + 1; count = r .first + r .count - (n + 1) }
 
 -- whether an entry has some words from one of its words on
 abbrev pub has : ℕ → List ℕ → Entry → Bool

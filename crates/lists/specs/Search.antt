@@ -1,8 +1,9 @@
 -- Searching: of words that are compared, and of entries that are searched, those that are left decide.
 use Prim.Native.Nat.{ℕ, zero, suc, _+_, _*_, _-_, _≤_, _<_}
-use mathlib.Core.Path.{_≡_, refl, ap, sym, _∙_}
+use mathlib.Core.Path.{_≡_, refl, ap, ap₂, sym, _∙_}
 use mathlib.Core.Bool.{Bool, true, false, _&&_}
 use mathlib.Core.List.{List, [], _∷_}
+use native.Mathlib.Nat.{mul-add}
 use native.Mathlib.Numerals.{add-one}
 use native.Mathlib.Omega.{arith}
 use lib.ListN.{length, getD, take, drop, drop-of-length-le, length-take, length-drop}
@@ -11,11 +12,12 @@ use borrow.Author.Tests.{eq-eqb, ne-eqb}
 use lib.Seq.{drop-cons}
 use Rattle.blob.specs.Reading.{choose}
 use Rattle.format.specs.Lists.{Entry}
-use Rattle.format.specs.Lookup.{entriesFrom, wordOf, alike, select, position}
+use Rattle.format.specs.Lookup.{entriesFrom, wordOf, alike, select, position, positions}
 use Rattle.lists.specs.declared.Found.{Found}
 use Rattle.lists.specs.declared.Found.the-variants as founds
-use Rattle.lists.specs.Entries.{more, some-of}
-use Rattle.lists.specs.Found.{has, found}
+use Rattle.lists.specs.declared.Run.{Run}
+use Rattle.lists.specs.Entries.{entries-length, drop-entries, more, some-of}
+use Rattle.lists.specs.Found.{entries, behind, has, found}
 
 -- Of two runs of words, those that are left decide: where the next two are equal, where they are not, and where none is left.
 module _ (words key : List ℕ) (at : ℕ) where
@@ -146,3 +148,43 @@ select-none p k (x ∷ es) e = go (p x) e (select-none p (suc k) es)
         → choose t (x ∷ select p es) (select p es) ≡ []
     go true e ih = absurd (nothing-found k (sym e))
     go false e ih = ih e
+
+-- All that a test picks: none where it finds none; else the one that it finds, and those behind that.
+pub positions-none : (p : Entry → Bool) (k : ℕ) (es : List Entry) → found (position p k es) ≡ founds.Nothing → positions p k es ≡ []
+unfolding positions position
+positions-none p k [] e = refl
+positions-none p k (x ∷ es) e = go (p x) e (positions-none p (suc k) es)
+  where
+    go : (t : Bool) → found (choose t (k ∷ []) (position p (suc k) es)) ≡ founds.Nothing → (found (position p (suc k) es) ≡ founds.Nothing → positions p (suc k) es ≡ [])
+        → choose t (k ∷ positions p (suc k) es) (positions p (suc k) es) ≡ []
+    go true e ih = absurd (nothing-found k (sym e))
+    go false e ih = ih e
+
+pub positions-found : (p : Entry → Bool) (k : ℕ) (es : List Entry) (n : ℕ) → found (position p k es) ≡ founds.Number n
+    → positions p k es ≡ n ∷ positions p (suc n) (drop (suc n - k) es)
+unfolding positions position
+positions-found p k [] n e = absurd (nothing-found n e)
+positions-found p k (x ∷ es) n e = go (p x) e (positions-found p (suc k) es n)
+  where
+    go : (t : Bool) → found (choose t (k ∷ []) (position p (suc k) es)) ≡ founds.Number n
+        → (found (position p (suc k) es) ≡ founds.Number n → positions p (suc k) es ≡ n ∷ positions p (suc n) (drop (suc n - suc k) es))
+        → choose t (k ∷ positions p (suc k) es) (positions p (suc k) es) ≡ n ∷ positions p (suc n) (drop (suc n - k) (x ∷ es))
+    go true e ih = let z : suc n - k ≡ 1 = omega (arith, same-found k n e) in rw (z, ← same-found k n e)
+    go false e ih = let z : suc n - k ≡ suc (suc n - suc k) = omega (arith, position-found p (suc k) es n e) in rw z (ih e)
+
+-- of a run's entries
+pub run-positions : (p : Entry → Bool) (words : List ℕ) (width : ℕ) (r : Run) (n : ℕ) → found (position p (r .first) (entries width r words)) ≡ founds.Number n
+    → (positions p (r .first) (entries width r words)
+    ≡ n ∷ positions p (n + 1) (entries width (behind r n) words))
+    × (r .first ≤ n) × (n < r .first + r .count)
+run-positions p words width r n e =
+    let f = position-found p (r .first) (entries width r words) n e in
+    let l = entries-length width words (r .count) (r .start + width * r .first) in
+    let c : r .count - (suc n - r .first) ≡ r .first + r .count - (n + 1) = omega (arith, f, l) in
+    let s : r .first + (suc n - r .first) ≡ n + 1 = omega (arith, f) in
+    let a : (r .start + width * r .first) + width * (suc n - r .first) ≡ r .start + width * (n + 1) = rw (← s) (omega (arith, mul-add width (r .first) (suc n - r .first))) in (
+      positions-found p (r .first) (entries width r words) n e
+          ∙ ap₂ (λ (m : ℕ) (es : List Entry). n ∷ positions p m es) (sym (add-one n)) (drop-entries width words (suc n - r .first) (r .count) (r .start + width * r .first) (omega (arith, f, l)) ∙ ap₂ (λ m at. entriesFrom width m at words) c a),
+      f .1,
+      omega (arith, f, l),
+    )

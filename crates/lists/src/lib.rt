@@ -90,6 +90,18 @@ pub fn at_offset(words: &[u32], templates: Run, offset: u32) -> Found
     find(words, templates, row::TEMPLATES, TEMPLATE_OFFSET, &key)
 }
 
+// Those of some entries that are behind one of them, by its number.
+pub fn behind(run: Run, n: u32) -> Run
+    requires { ⌜ (n < run .first + run .count) × (run .first + run .count ≤ 65536) ⌝ }
+    ensures { λ r. ⌜ r ≡ spec.behind run n ⌝ }
+{
+    Run {
+        start: run.start,
+        first: n + 1,
+        count: run.first + run.count - (n + 1),
+    }
+}
+
 // Whether no count is over its capacity.
 pub fn counts_fit(c: [u32; AREAS], capacities: [u32; AREAS]) -> bool
     ensures { λ r. ⌜ r ≡ right.counts-fit c capacities ⌝ }

@@ -1,31 +1,36 @@
 -- The lookup by key, by what was tested and found.
-use Prim.Native.Nat.{ℕ, _/_, _≤_, _<_}
+use Prim.{tt}
+use Prim.Native.Nat.{ℕ, _+_, _/_, _≤_, _<_}
 use mathlib.Core.Path.{_≡_, refl, ap, ap₂, sym, _∙_}
 use mathlib.Core.Bool.{Bool, true, false, _&&_}
-use mathlib.Core.List.{List, [], append-nil}
+use mathlib.Core.List.{List, [], _∷_, _++_, map, map-append}
 use native.Mathlib.Omega.{arith}
-use lib.ListN.{length}
+use lib.ListN.{length, length-map}
 use borrow.Author.Tests.{le-leb, lt-leb}
 use Rattle.blob.specs.Reading.{Outcome, done, refused}
-use Rattle.blob.specs.Laid.{laid, flat}
+use Rattle.blob.specs.Asks.{inside-append}
+use Rattle.blob.specs.Laid.{flat}
+use Rattle.blob.specs.Places.{Each}
 use Rattle.blob.specs.declared.Refusal.{Refusal}
 use Rattle.blob.specs.declared.Verdict.the-variants as verdicts
-use Rattle.format.specs.Area.{PROVIDERS, TABLES, EVENTS, TEMPLATES, place, width, of}
+use Rattle.format.specs.Area.{PROVIDERS, TABLES, EVENTS, TEMPLATES, place, width}
 use Rattle.format.specs.Entry.{GUID, EVENT-TEMPLATE}
 use Rattle.format.specs.Table.{EVNT, TTBL}
 use Rattle.format.specs.Lists.{Entry, guidWords}
 use Rattle.format.specs.Answer.{own, lent-enough}
-use Rattle.format.specs.Lookup.{entriesOf, wordOf, select, position, counts-fit, tablesFit, once, keyed, keyWords, guidAtOffset, guidsOf, byKey, guidsFound, guidsHeld}
+use Rattle.format.specs.Lookup.{entriesFrom, entriesOf, wordOf, select, position, positions, counts-fit, tablesFit, once, keyed, keyWords, guidAtOffset, guidsOfProvider, guidsOf, byKey, guidsFound, guidsHeld}
 use Rattle.format.specs.declared.GuidsFound.the-variants as guids
 use Rattle.format.specs.declared.Key.{Key}
+use Rattle.lists.specs.declared.Found.{Found}
 use Rattle.lists.specs.declared.Found.the-variants as founds
 use Rattle.lists.specs.declared.Run.{Run}
-use Rattle.lists.specs.Fit.{refused-as, inside, whole-entries}
-use Rattle.lists.specs.Found.{entries, few, runOf, has, found, fitTogether, Fit, owned}
-use Rattle.lists.specs.Search.{and-true, none-found, position-found}
+use Rattle.lists.specs.Fit.{refused-as, inside, whole-few, whole-entries}
+use Rattle.lists.specs.Found.{entries, few, runOf, behind, has, found, fitTogether, Fit, owned}
+use Rattle.lists.specs.Search.{and-true, positions-none, run-positions}
 use Rattle.lists.specs.Tables.{owned-entries}
-use Rattle.lookup.specs.Given.{Part, guidsBy, guidsOwned, roomFor}
-use Rattle.lookup.specs.Once.{given-once}
+use Rattle.lookup.specs.declared.Walk.{Walk}
+use Rattle.lookup.specs.Given.{Part, guidOf, firsts, Stands, ahead, begun, cameTo, numbersFrom, numbersOfAll, newOf, givenBy, guidsBy, roomFor}
+use Rattle.lookup.specs.Once.{keyed-guids, numbers-below, given-once}
 
 and-false : (b : Bool) → (b && false) ≡ false
 and-false true = refl
@@ -48,60 +53,89 @@ module _ (words capacities counts : List ℕ) (key : Key) (lent : List ℕ) wher
   unfolding byKey
   key-room h f t = rw (f .0, le-leb _ _ h, f .1, t)
 
--- over lists that fit together
-module _ (words capacities counts : List ℕ) (f : Fit words capacities counts) where
-  module _ (t : tablesFit counts (entriesOf words capacities counts TABLES) ≡ true) (p : ℕ) where
-    pub events-in : few (width EVENTS) (owned words capacities counts p EVNT) words
-    events-in =
-        let i = inside words capacities counts f (place EVENTS) in
-        let o = owned-entries words capacities counts EVENTS EVNT refl p (entriesOf words capacities counts TABLES) t in
-        (omega (arith, i .0, o .begins, o .within), omega (arith, i .1, o .within))
+-- over lists that fit together: a provider's events and templates stand in the words
+module _ (words capacities counts : List ℕ) (f : Fit words capacities counts) (t : tablesFit counts (entriesOf words capacities counts TABLES) ≡ true) where
+  abbrev list : Run
+  list = runOf capacities counts (place TEMPLATES)
 
-    pub templates-in : Part (runOf capacities counts (place TEMPLATES)) (owned words capacities counts p TTBL) words
-    templates-in =
-        let o = owned-entries words capacities counts TEMPLATES TTBL refl p (entriesOf words capacities counts TABLES) t in
-        (inside words capacities counts f (place TEMPLATES), o .begins, o .within)
+  pub events-in : (p : ℕ) → few (width EVENTS) (owned words capacities counts p EVNT) words
+  events-in p =
+      let i = inside words capacities counts f (place EVENTS) in
+      let o = owned-entries words capacities counts EVENTS EVNT refl p (entriesOf words capacities counts TABLES) t in
+      (omega (arith, i .0, o .begins, o .within), omega (arith, i .1, o .within))
 
-    pub part-in : (list templates : Run) → list ≡ runOf capacities counts (place TEMPLATES) → templates ≡ owned words capacities counts p TTBL → Part list templates words
-    part-in list templates g h = rw (g, h) templates-in
+  pub templates-in : (p : ℕ) → Part list (owned words capacities counts p TTBL) words
+  templates-in p =
+      let o = owned-entries words capacities counts TEMPLATES TTBL refl p (entriesOf words capacities counts TABLES) t in
+      (inside words capacities counts f (place TEMPLATES), o .begins, o .within)
 
+  -- the lookup stands before all providers
+  pub begins : Stands words list (begun capacities counts)
+  begins = ((omega arith, omega arith), (inside words capacities counts f (place TEMPLATES), refl, omega arith), whole-few words capacities counts f (place PROVIDERS))
+
+  -- what the events of some providers give is in list 9, and the GUIDs are the definition's
   module _ (key : Key) where
-    abbrev searched : List ℕ
-    searched = position (has 0 (guidWords (key .guid))) 0 (entries (width PROVIDERS) (runOf capacities counts (place PROVIDERS)) words)
+    abbrev from : ℕ → List ℕ
+    from p = numbersFrom words capacities counts (guidWords (key .guid)) (keyWords key) p
 
-    providers : searched ≡ position (has 0 (guidWords (key .guid))) 0 (entriesOf words capacities counts PROVIDERS)
-    providers = ap (position (has 0 (guidWords (key .guid))) 0) (whole-entries words capacities counts (place PROVIDERS))
-
-    pub key-found : (p : ℕ) → found searched ≡ founds.Number p → tablesFit counts (entriesOf words capacities counts TABLES) ≡ true
-        → guidsOf words capacities counts key ≡ guidsOwned words capacities counts p key
-    unfolding guidsOf flat
-    key-found p e t =
+    guids-from : (p : ℕ) → guidsOfProvider words capacities counts key p ≡ map (guidOf words list) (from p)
+    guids-from p =
         let a = owned-entries words capacities counts EVENTS EVNT refl p (entriesOf words capacities counts TABLES) t in
         let b = owned-entries words capacities counts TEMPLATES TTBL refl p (entriesOf words capacities counts TABLES) t in
-        rw (position-found (has 0 (guidWords (key .guid))) 0 (entriesOf words capacities counts PROVIDERS) p (ap found (sym providers) ∙ e) .0)
-        (append-nil _
-        ∙ ap₂ (λ (ts es : List Entry). once [] (flat (λ e. guidAtOffset ts (wordOf EVENT-TEMPLATE e)) (select (keyed key) es))) (b .equal) (a .equal)
-        ∙ sym (given-once words (runOf capacities counts (place TEMPLATES)) (owned words capacities counts p TTBL) (templates-in t p) (keyWords key) (owned words capacities counts p EVNT)))
+        ap₂ (λ (ts es : List Entry). flat (λ e. guidAtOffset ts (wordOf EVENT-TEMPLATE e)) (select (keyed key) es)) (b .equal) (a .equal)
+        ∙ keyed-guids words list (owned words capacities counts p TTBL) (templates-in p) (keyWords key) (entries (width EVENTS) (owned words capacities counts p EVNT) words)
 
-    pub key-none : found searched ≡ founds.Nothing → guidsOf words capacities counts key ≡ []
-    unfolding guidsOf flat
-    key-none e = rw (sym providers ∙ none-found searched e)
+    guids-from-all : (ps : List ℕ) → flat (λ p. guidsOfProvider words capacities counts key p) ps ≡ map (guidOf words list) (flat from ps)
+    unfolding flat
+    guids-from-all [] = refl
+    guids-from-all (p ∷ ps) = ap₂ (λ (a b : List Entry). a ++ b) (guids-from p) (guids-from-all ps) ∙ sym (map-append (guidOf words list) (from p) (flat from ps))
 
--- by the runs that were found
-pub owned-given : (words capacities counts : List ℕ) (p : ℕ) (key : Key) (list templates events : Run) → list ≡ runOf capacities counts (place TEMPLATES)
-    → templates ≡ owned words capacities counts p TTBL → events ≡ owned words capacities counts p EVNT
-    → guidsBy words list templates (keyWords key) events ≡ guidsOwned words capacities counts p key
-owned-given words capacities counts p key list templates events g h e =
-    ap (λ l. guidsBy words l templates (keyWords key) events) g
-    ∙ ap₂ (λ t v. guidsBy words (runOf capacities counts (place TEMPLATES)) t (keyWords key) v) h e
+    below-all : (ps : List ℕ) → Each (λ n. n < list .count) (flat from ps)
+    unfolding flat
+    below-all [] = tt
+    below-all (p ∷ ps) =
+        inside-append (list .count) (from p) (flat from ps)
+        (numbers-below words list (owned words capacities counts p TTBL) (templates-in p) (keyWords key) (entries (width EVENTS) (owned words capacities counts p EVNT) words)) (below-all ps)
 
--- where nothing is given, there is room
-pub given-none : (lent : List ℕ) (o : Outcome (List Entry)) → o ≡ roomFor lent [] → (guids.Given 0 ≡ guidsFound o) × (lent ≡ guidsHeld lent o)
-unfolding flat laid
-given-none lent o e =
-    let h : 0 ≤ length lent / GUID = omega arith in
-    let x : o ≡ done [] = e ∙ rw (le-leb _ _ h) in
-    (ap guidsFound (sym x), ap (guidsHeld lent) (sym x))
+    pub key-given : guidsOf words capacities counts key ≡ guidsBy words capacities counts (guidWords (key .guid)) (keyWords key)
+    unfolding guidsOf entriesFrom flat
+    key-given =
+        let ps = positions (has 0 (guidWords (key .guid))) 0 (entries (width PROVIDERS) (runOf capacities counts (place PROVIDERS)) words) in
+        ap (λ (es : List Entry). once [] (flat (λ p. guidsOfProvider words capacities counts key p) (positions (has 0 (guidWords (key .guid))) 0 es))) (sym (whole-entries words capacities counts (place PROVIDERS)))
+        ∙ ap (once []) (guids-from-all ps)
+        ∙ sym (given-once words list (inside words capacities counts f (place TEMPLATES)) (flat from ps) (below-all ps))
+
+    pub key-counted : length (guidsOf words capacities counts key) ≡ length (givenBy words capacities counts (guidWords (key .guid)) (keyWords key))
+    key-counted = ap length key-given ∙ length-map (givenBy words capacities counts (guidWords (key .guid)) (keyWords key)) (guidOf words list)
+
+-- Where no event is left, the next provider decides: its events come next; where there is none, it is over.
+module _ (words capacities counts guid key : List ℕ) (w : Walk) where
+  abbrev searched : Found
+  searched = found (position (has 0 guid) (w .providers .first) (entries (width PROVIDERS) (w .providers) words))
+
+  abbrev left : List Bool → List ℕ
+  left marks = firsts words (runOf capacities counts (place TEMPLATES)) marks (numbersOfAll words capacities counts guid key (w .providers))
+
+  pub come-to : (marks : List Bool) (p : ℕ) → searched ≡ founds.Number p → left marks ≡ newOf words capacities counts guid key marks (cameTo words capacities counts (w .providers) p)
+  unfolding flat
+  come-to marks p e =
+      ap (λ (ps : List ℕ). firsts words (runOf capacities counts (place TEMPLATES)) marks (flat (λ n. numbersFrom words capacities counts guid key n) ps))
+      (run-positions (has 0 guid) words (width PROVIDERS) (w .providers) p e .0)
+
+  pub come-to-none : (marks : List Bool) → searched ≡ founds.Nothing → left marks ≡ []
+  unfolding flat firsts
+  come-to-none marks e = rw (positions-none (has 0 guid) (w .providers .first) (entries (width PROVIDERS) (w .providers) words) e)
+
+  pub came-to : Fit words capacities counts → tablesFit counts (entriesOf words capacities counts TABLES) ≡ true → Stands words (runOf capacities counts (place TEMPLATES)) w
+      → (p : ℕ) → searched ≡ founds.Number p
+      → (p < w .providers .first + w .providers .count)
+      × Stands words (runOf capacities counts (place TEMPLATES)) (cameTo words capacities counts (w .providers) p)
+      × (ahead (cameTo words capacities counts (w .providers) p) ≤ ahead w)
+      × (behind (w .providers) p .count < w .providers .count)
+  came-to f t s p e =
+      let r = run-positions (has 0 guid) words (width PROVIDERS) (w .providers) p e in
+      let v = events-in words capacities counts f t p in
+      (omega (arith, r .2), (v, templates-in words capacities counts f t p, (omega (arith, r .1, r .2, s .2), omega (arith, r .1, r .2, s .2))), omega (arith, r .1, r .2, v .1), omega (arith, r .1, r .2))
 
 -- a refusal keeps the lent list
 pub refusal-keeps : (lent : List ℕ) (o : Outcome (List Entry)) (q r : Refusal) → q ≡ r → o ≡ refused r → (guids.Refused q ≡ guidsFound o) × (lent ≡ guidsHeld lent o)

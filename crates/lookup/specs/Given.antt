@@ -2,33 +2,36 @@
 -- them, and what was given is marked by these.
 use Prim.{Unit}
 use Prim.Native.Nat.{ℕ, zero, suc, _+_, _*_, _-_, _/_, _≤_, _<_, min}
-use mathlib.Core.Path.{_≡_, refl, ap, ap₂, sym, _∙_}
+use mathlib.Core.Path.{_≡_, refl, ap, ap₂, sym, _∙_, subst}
 use mathlib.Core.Bool.{Bool, true, false, not, _&&_}
-use mathlib.Core.List.{List, [], _∷_, _++_, map}
+use mathlib.Core.List.{List, [], _∷_, _++_, map, append-assoc}
 use native.Mathlib.Omega.{arith}
-use lib.ListN.{length, getD, take, drop, set, length-take, length-drop, length-map, replicate}
+use lib.ListN.{length, getD, take, drop, set, length-take, length-drop, replicate}
 use lib.Seq.{take-take}
 use lib.Dec.{eqb, leb}
 use borrow.Author.Tests.{eq-eqb, ne-eqb, le-leb, lt-leb}
 use Rattle.blob.specs.Reading.{Outcome, done, refused, choose}
 use Rattle.blob.specs.Laid.{laid, laid-more, flat, flat-map}
-use Rattle.format.specs.Area.{EVENTS, TEMPLATES, GUIDS, place, width}
+use Rattle.format.specs.Area.{PROVIDERS, EVENTS, TEMPLATES, GUIDS, place, width}
 use Rattle.format.specs.Entry.{GUID, KEY, EVENT-TEMPLATE, TEMPLATE-GUID}
 use Rattle.format.specs.Table.{EVNT, TTBL}
 use Rattle.format.specs.Answer.{too-small}
 use Rattle.format.specs.Lists.{Entry}
-use Rattle.format.specs.Lookup.{entriesFrom, wordOf, alike, position, keyWords}
-use Rattle.format.specs.declared.Key.{Key}
+use Rattle.format.specs.Lookup.{entriesFrom, wordOf, alike, positions}
 use Rattle.format.specs.declared.TemplateFound.{TemplateFound}
 use Rattle.format.specs.declared.TemplateFound.the-variants as template
 use Rattle.lists.specs.declared.Found.{Found}
 use Rattle.lists.specs.declared.Found.the-variants as founds
 use Rattle.lists.specs.declared.Run.{Run}
 use Rattle.lists.specs.Entries.{entries-length, word-at}
-use Rattle.lists.specs.Found.{entries, found, lowest, runOf, owned}
+use Rattle.lists.specs.Found.{entries, few, has, found, lowest, runOf, owned}
+use Rattle.lists.specs.Found as lists
 use Rattle.lists.specs.Search.{told as single, nothing-found, same-found, position-found, position-single}
 use Rattle.lookup.specs.declared.Next.{Next}
 use Rattle.lookup.specs.declared.Next.the-variants as nexts
+use Rattle.lookup.specs.declared.Walk.{Walk}
+use Rattle.lookup.specs.declared.Step.{Step}
+use Rattle.lookup.specs.declared.Step.the-variants as steps
 
 -- as the answer of the lookup by offset
 abbrev pub shown : Found → TemplateFound
@@ -83,28 +86,70 @@ firsts words list marks (n ∷ ns) = choose (getD marks n false) (firsts words l
 abbrev pub unset : List Bool
 unset = replicate 65536 false
 
--- the templates whose GUIDs some events give, each once; and the GUIDs
-abbrev pub givenBy : List ℕ → Run → Run → List ℕ → Run → List ℕ
-givenBy words list templates key events = firsts words list unset (numbers words templates key events)
+-- what the next one tells of the events that are left, and of others behind them, with the marks that are then set
+abbrev pub told : List ℕ → Run → Run → List ℕ → List Bool → List ℕ → Next → List ℕ
+told words list templates key marks others nexts.Over = firsts words list marks others
+told words list templates key marks others (nexts.Template n rest) = n ∷ firsts words list marks (numbers words templates key rest ++ others)
 
-abbrev pub guidsBy : List ℕ → Run → Run → List ℕ → Run → List Entry
-guidsBy words list templates key events = map (guidOf words list) (givenBy words list templates key events)
-
--- those of a provider's events
-abbrev pub guidsOwned : List ℕ → List ℕ → List ℕ → ℕ → Key → List Entry
-guidsOwned words capacities counts p key =
-    guidsBy words (runOf capacities counts (place TEMPLATES)) (owned words capacities counts p TTBL) (keyWords key) (owned words capacities counts p EVNT)
-
--- what the next one tells of those that are left, with the marks that are then set
-abbrev pub told : List ℕ → Run → Run → List ℕ → List Bool → Next → List ℕ
-told words list templates key marks nexts.Over = []
-told words list templates key marks (nexts.Template n rest) = n ∷ firsts words list marks (numbers words templates key rest)
+abbrev pub Tells : List ℕ → Run → Run → List ℕ → List Bool → Run → List Bool → Next → Type 0
+Tells words list templates key marks events marks' r =
+    (others : List ℕ) → firsts words list marks (numbers words templates key events ++ others) ≡ told words list templates key marks' others r
 
 -- the next one is a template, and the events behind it end where all do
 abbrev pub behind : Run → Run → Next → Type 0
 behind events list nexts.Over = Unit
 behind events list (nexts.Template n rest) =
     (n < list .count) × (rest .count < events .count) × (rest .start ≡ events .start) × (rest .first + rest .count ≡ events .first + events .count)
+
+-- Where the lookup stands: in the words, with a part of list 9.
+abbrev pub Stands : List ℕ → Run → Walk → Type 0
+Stands words list w = few (width EVENTS) (w .events) words × Part list (w .templates) words × few (width PROVIDERS) (w .providers) words
+
+-- how far it has to go
+abbrev pub ahead : Walk → ℕ
+ahead w = 65537 * w .providers .count + w .events .count
+
+-- before all providers, and at one of them
+abbrev pub begun : List ℕ → List ℕ → Walk
+begun capacities counts =
+    record { events = record { start = 0; first = 0; count = 0 }; templates = runOf capacities counts (place TEMPLATES); providers = runOf capacities counts (place PROVIDERS) }
+
+abbrev pub cameTo : List ℕ → List ℕ → List ℕ → Run → ℕ → Walk
+cameTo words capacities counts providers p =
+    record { events = owned words capacities counts p EVNT; templates = owned words capacities counts p TTBL; providers = lists.behind providers p }
+
+module _ (words capacities counts guid key : List ℕ) where
+  -- the numbers of the templates that a provider's events give, in its own templates
+  abbrev pub numbersFrom : ℕ → List ℕ
+  numbersFrom p = numbers words (owned words capacities counts p TTBL) key (owned words capacities counts p EVNT)
+
+  -- those of the providers with the GUID, of some; and of all events that are left
+  abbrev pub numbersOfAll : Run → List ℕ
+  numbersOfAll providers = flat numbersFrom (positions (has 0 guid) (providers .first) (entries (width PROVIDERS) providers words))
+
+  abbrev pub numbersLeft : Walk → List ℕ
+  numbersLeft w = numbers words (w .templates) key (w .events) ++ numbersOfAll (w .providers)
+
+  -- those of them whose GUID is new
+  abbrev pub newOf : List Bool → Walk → List ℕ
+  newOf marks w = firsts words (runOf capacities counts (place TEMPLATES)) marks (numbersLeft w)
+
+  -- the templates whose GUIDs are given, each once; and the GUIDs
+  abbrev pub givenBy : List ℕ
+  givenBy = newOf unset (begun capacities counts)
+
+  abbrev pub guidsBy : List Entry
+  guidsBy = map (guidOf words (runOf capacities counts (place TEMPLATES))) givenBy
+
+  -- what a step tells of those that are left, with the marks that are then set
+  abbrev pub stepped : List Bool → Step → List ℕ
+  stepped marks steps.Over = []
+  stepped marks (steps.Template n w) = n ∷ newOf marks w
+
+-- a step comes to a template, and stands nearer to the end
+abbrev pub onward : List ℕ → Run → Walk → Step → Type 0
+onward words list w steps.Over = Unit
+onward words list w (steps.Template n w') = (n < list .count) × Stands words list w' × (ahead w' < ahead w)
 
 -- GUIDs, where a lent list has room for them; else 9
 abbrev pub roomFor : List ℕ → List Entry → Outcome (List Entry)
@@ -191,28 +236,45 @@ module _ (words : List ℕ) (list templates : Run) (key : List ℕ) (marks : Lis
       ∙ ap₂ (λ (ns : List ℕ) (p : ℕ). ns ++ flat (numberOf words templates key) (entriesFrom (width EVENTS) (left - 1) p words))
       (number-single words templates key (take (width EVENTS) (drop at words))) b
 
-  pub next-skip : unmarked marks (found (numberAt words templates key at)) ≡ founds.Nothing
-      → firsts words list marks (numbers words templates key (record { start = start; first = first; count = left }))
-      ≡ firsts words list marks (numbers words templates key (record { start = start; first = first + 1; count = left - 1 }))
-  next-skip e = ap (firsts words list marks) numbers-more ∙ skip words list marks (found (numberAt words templates key at)) _ e
+  pub next-skip : (others : List ℕ) → unmarked marks (found (numberAt words templates key at)) ≡ founds.Nothing
+      → firsts words list marks (numbers words templates key (record { start = start; first = first; count = left }) ++ others)
+      ≡ firsts words list marks (numbers words templates key (record { start = start; first = first + 1; count = left - 1 }) ++ others)
+  next-skip others e =
+      ap (λ (ns : List ℕ). firsts words list marks (ns ++ others)) numbers-more
+      ∙ ap (firsts words list marks) (append-assoc (single (found (numberAt words templates key at))) _ others)
+      ∙ skip words list marks (found (numberAt words templates key at)) _ e
 
-  pub next-give : (n : ℕ) (marks' : List Bool) → unmarked marks (found (numberAt words templates key at)) ≡ founds.Number n → marks' ≡ marked words list (guidOf words list n) marks
-      → firsts words list marks (numbers words templates key (record { start = start; first = first; count = left }))
-      ≡ n ∷ firsts words list marks' (numbers words templates key (record { start = start; first = first + 1; count = left - 1 }))
-  next-give n marks' e m =
-      ap (firsts words list marks) numbers-more
+  pub next-give : (others : List ℕ) (n : ℕ) (marks' : List Bool) → unmarked marks (found (numberAt words templates key at)) ≡ founds.Number n → marks' ≡ marked words list (guidOf words list n) marks
+      → firsts words list marks (numbers words templates key (record { start = start; first = first; count = left }) ++ others)
+      ≡ n ∷ firsts words list marks' (numbers words templates key (record { start = start; first = first + 1; count = left - 1 }) ++ others)
+  next-give others n marks' e m =
+      ap (λ (ns : List ℕ). firsts words list marks (ns ++ others)) numbers-more
+      ∙ ap (firsts words list marks) (append-assoc (single (found (numberAt words templates key at))) _ others)
       ∙ give words list marks (found (numberAt words templates key at)) _ n e .0
-      ∙ ap (λ (ms : List Bool). n ∷ firsts words list ms (numbers words templates key (record { start = start; first = first + 1; count = left - 1 }))) (sym m)
+      ∙ ap (λ (ms : List Bool). n ∷ firsts words list ms (numbers words templates key (record { start = start; first = first + 1; count = left - 1 }) ++ others)) (sym m)
+
+-- by what it is, in list 9 as it is known
+module _ (words : List ℕ) (list templates : Run) (key : List ℕ) (marks : List Bool) (events : Run) (marks' : List Bool) (r : Next)
+    (h : Tells words list templates key marks events marks' r) (l : Run) (e : list ≡ l) (others : List ℕ) where
+  tells : firsts words l marks (numbers words templates key events ++ others) ≡ told words l templates key marks' others r
+  tells = subst (λ (l : Run). Tells words l templates key marks events marks' r) e h others
+
+  pub tells-over : r ≡ nexts.Over → firsts words l marks (numbers words templates key events ++ others) ≡ firsts words l marks' others
+  tells-over o = tells ∙ ap (told words l templates key marks' others) o
+
+  pub tells-template : (n : ℕ) (rest : Run) → r ≡ nexts.Template n rest
+      → firsts words l marks (numbers words templates key events ++ others) ≡ n ∷ firsts words l marks' (numbers words templates key rest ++ others)
+  tells-template n rest o = tells ∙ ap (told words l templates key marks' others) o
 
 pub next-below : (words : List ℕ) (templates : Run) (key : List ℕ) (marks : List Bool) (at n : ℕ) → unmarked marks (found (numberAt words templates key at)) ≡ founds.Number n
     → n < templates .first + templates .count
 next-below words templates key marks at n e =
     number-below words templates key (take (width EVENTS) (drop at words)) n (give words templates marks (found (numberAt words templates key at)) [] n e .1)
 
-pub next-none : (words : List ℕ) (list templates : Run) (key : List ℕ) (marks : List Bool) (start first left : ℕ) → left ≤ 0
-    → firsts words list marks (numbers words templates key (record { start = start; first = first; count = left })) ≡ []
-unfolding firsts entriesFrom flat
-next-none words list templates key marks start first left h = let m : left ≡ 0 = omega arith in rw m
+pub next-none : (words : List ℕ) (list templates : Run) (key : List ℕ) (marks : List Bool) (start first left : ℕ) (others : List ℕ) → left ≤ 0
+    → firsts words list marks (numbers words templates key (record { start = start; first = first; count = left }) ++ others) ≡ firsts words list marks others
+unfolding entriesFrom flat
+next-none words list templates key marks start first left others h = let m : left ≡ 0 = omega arith in rw m
 
 -- Of GUIDs that are stored, those that are left decide.
 module _ (G : ℕ → List ℕ) (guids : List ℕ) (to : ℕ) (ns : List ℕ) where
@@ -232,22 +294,12 @@ pub guid-length : (words : List ℕ) (list : Run) (n : ℕ) → Listed list word
 guid-length words list n f h = simp (length-take, length-drop) (omega (arith, f))
 
 -- What is given, by the number that was counted: too many for the lent list, or all.
-module _ (words : List ℕ) (list templates : Run) (key : List ℕ) (events : Run) (lent : List ℕ) (n : ℕ)
-    (e : n ≡ min (length (givenBy words list templates key events)) (length lent / GUID + 1)) where
-  counted : length (guidsBy words list templates key events) ≡ length (givenBy words list templates key events)
-  counted = length-map (givenBy words list templates key events) (guidOf words list)
+module _ (gs : List Entry) (lent : List ℕ) (n : ℕ) (e : n ≡ min (length gs) (length lent / GUID + 1)) where
+  pub give-short : length lent / GUID < n → roomFor lent gs ≡ refused (too-small GUIDS (length lent / GUID))
+  give-short h = let l : length lent / GUID < length gs = omega arith in rw (lt-leb _ _ l)
 
-  pub give-short : length lent / GUID < n → roomFor lent (guidsBy words list templates key events) ≡ refused (too-small GUIDS (length lent / GUID))
-  give-short h =
-      let l : length lent / GUID < length (guidsBy words list templates key events) = omega (arith, counted) in
-      rw (lt-leb _ _ l)
-
-  pub give-all : n ≤ length lent / GUID
-      → (roomFor lent (guidsBy words list templates key events) ≡ done (guidsBy words list templates key events))
-      × (n ≡ length (guidsBy words list templates key events)) × (GUID * length (givenBy words list templates key events) ≤ length lent)
-  give-all h =
-      let l : length (guidsBy words list templates key events) ≤ length lent / GUID = omega (arith, counted) in
-      (rw (le-leb _ _ l), omega (arith, counted), omega arith)
+  pub give-all : n ≤ length lent / GUID → (roomFor lent gs ≡ done gs) × (n ≡ length gs) × (GUID * length gs ≤ length lent)
+  give-all h = let l : length gs ≤ length lent / GUID = omega arith in (rw (le-leb _ _ l), omega arith, omega arith)
 
 -- the words of GUIDs that are stored one by one
 pub stored-guids : (words : List ℕ) (list : Run) (ns : List ℕ) → flat (guidOf words list) ns ≡ flat (λ g. g) (map (guidOf words list) ns)

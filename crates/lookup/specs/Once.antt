@@ -14,7 +14,7 @@ use Rattle.blob.specs.Reading.{choose}
 use Rattle.blob.specs.Asks.{inside-append}
 use Rattle.blob.specs.Laid.{flat}
 use Rattle.blob.specs.Places.{Each}
-use Rattle.format.specs.Area.{EVENTS, TEMPLATES, width}
+use Rattle.format.specs.Area.{TEMPLATES, width}
 use Rattle.format.specs.Entry.{GUID, KEY, EVENT-TEMPLATE, TEMPLATE-OFFSET, TEMPLATE-GUID}
 use Rattle.format.specs.Lists.{Entry}
 use Rattle.format.specs.Lookup.{alike, among, once, wordOf, select, guidAtOffset}
@@ -24,7 +24,7 @@ use Rattle.lists.specs.declared.Run.{Run}
 use Rattle.lists.specs.Entries.{entries-length, entry, some-of}
 use Rattle.lists.specs.Found.{entries, found, lowest}
 use Rattle.lists.specs.Search.{told, position-found, position-single, select-found, select-none}
-use Rattle.lookup.specs.Given.{Listed, Part, guidOf, numberOf, markOf, markedFrom, marked, numbers, firsts, unset, givenBy, number-single, number-below, guid-length}
+use Rattle.lookup.specs.Given.{Listed, Part, guidOf, numberOf, markOf, markedFrom, marked, firsts, unset, number-single, number-below, guid-length}
 
 -- a mark is set where the GUID stands, and no other one is touched
 module _ (words guid : List ℕ) where
@@ -84,6 +84,11 @@ module _ (words : List ℕ) (list : Run) (f : Listed list words) where
       go true a b = a
       go false a b = ap (λ (gs : List Entry). guidOf words list n ∷ gs) b
 
+  pub given-once : (ns : List ℕ) → Each (λ n. n < list .count) ns → map (guidOf words list) (firsts words list unset ns) ≡ once [] (map (guidOf words list) ns)
+  unfolding among
+  given-once ns b =
+      firsts-once unset [] ns (omega (arith, f, length-replicate 65536 false), λ n h. getD-replicate 65536 n false false (omega (arith, f))) b
+
 below-told : (m : ℕ) (x : Found) → ((n : ℕ) → x ≡ founds.Number n → n < m) → Each (λ n. n < m) (told x)
 below-told m founds.Nothing s = tt
 below-told m (founds.Number n) s = (s n refl, tt)
@@ -117,7 +122,7 @@ module _ (words : List ℕ) (list templates : Run) (f : Part list templates word
     gives e = guidAtOffset (entries (width TEMPLATES) templates words) (wordOf EVENT-TEMPLATE e)
 
     -- the GUIDs of the events that a key picks are those of the templates that they give
-    keyed-guids : (es : List Entry) → flat gives (select picks es) ≡ map (guidOf words list) (flat (numberOf words templates key) es)
+    pub keyed-guids : (es : List Entry) → flat gives (select picks es) ≡ map (guidOf words list) (flat (numberOf words templates key) es)
     unfolding select flat
     keyed-guids [] = refl
     keyed-guids (e ∷ es) = go (picks e) (keyed-guids es)
@@ -131,17 +136,10 @@ module _ (words : List ℕ) (list templates : Run) (f : Part list templates word
         go false ih = ih
 
     -- each of them is in list 9
-    numbers-below : (es : List Entry) → Each (λ n. n < list .count) (flat (numberOf words templates key) es)
+    pub numbers-below : (es : List Entry) → Each (λ n. n < list .count) (flat (numberOf words templates key) es)
     unfolding flat
     numbers-below [] = tt
     numbers-below (e ∷ es) =
         inside-append (list .count) (numberOf words templates key e) (flat (numberOf words templates key) es)
         (rw (number-single words templates key e) (below-told (list .count) (found (numberOf words templates key e)) (λ n h. omega (arith, f, number-below words templates key e n h))))
         (numbers-below es)
-
-    pub given-once : (events : Run) → map (guidOf words list) (givenBy words list templates key events) ≡ once [] (flat gives (select picks (entries (width EVENTS) events words)))
-    unfolding among
-    given-once events =
-        firsts-once words list (f .0) unset [] (numbers words templates key events)
-        (omega (arith, f, length-replicate 65536 false), λ n h. getD-replicate 65536 n false false (omega (arith, f))) (numbers-below (entries (width EVENTS) events words))
-        ∙ ap (once []) (sym (keyed-guids (entries (width EVENTS) events words)))

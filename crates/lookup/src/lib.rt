@@ -27,9 +27,23 @@ use format::list::width;
 use lists::Found;
 use lists::Run;
 
-// The next event that gives a GUID that was not given before: the number of its template, and the events behind it.
+// The next of a provider's events that gives a GUID that was not given before: the number of its template, and the events behind it.
 pub enum Next {
     Template(u32, Run),
+    Over,
+}
+
+// Where the lookup by key stands: the events that are left of a provider, the templates that they are resolved in, and the providers
+// behind it.
+pub struct Walk {
+    pub events: Run,
+    pub templates: Run,
+    pub providers: Run,
+}
+
+// The next of all events that does so, and where the lookup stands behind it.
+pub enum Step {
+    Template(u32, Walk),
     Over,
 }
 
@@ -139,8 +153,7 @@ fn next_new(
 ) -> Next
     requires { ⌜ lists.few (area.width area.EVENTS) events (now words) × (length (now key) ≡ entry.KEY) ⌝ }
     requires { ⌜ spec.Part list templates (now words) ⌝ }
-    ensures { λ r. ⌜ spec.firsts (now (words .entry)) list (now (marks .entry)) (spec.numbers (now (words .entry)) templates (now (key .entry)) events)
-        ≡ spec.told (now (words .entry)) list templates (now (key .entry)) (now (marks .exit)) r ⌝ }
+    ensures { λ r. ⌜ spec.Tells (now (words .entry)) list templates (now (key .entry)) (now (marks .entry)) events (now (marks .exit)) r ⌝ }
     ensures { λ r. ⌜ spec.behind events list r ⌝ }
 {
     let mut first = events.first;
@@ -164,62 +177,150 @@ fn next_new(
     Next::Over
 }
 
-// How many GUIDs some events give, each once; one more than the most that are asked for, where there are more.
-fn count(words: &[u32], events: Run, templates: Run, list: Run, key: &[u32], most: u32) -> u32
-    requires { ⌜ lists.few (area.width area.EVENTS) events (now words) × (length (now key) ≡ entry.KEY) × (most ≤ 65536) ⌝ }
-    requires { ⌜ spec.Part list templates (now words) ⌝ }
-    ensures { λ r. ⌜ r ≡ min (length (spec.givenBy (now (words .entry)) list templates (now (key .entry)) events)) (most + 1) ⌝ }
+// Before all providers.
+fn begin(capacities: [u32; AREAS], counts: [u32; AREAS]) -> Walk
+    ensures { λ r. ⌜ r ≡ spec.begun capacities counts ⌝ }
+{
+    let templates = lists::run_of(capacities, counts, row::TEMPLATES);
+    let providers = lists::run_of(capacities, counts, row::PROVIDERS);
+    Walk {
+        events: Run {
+            start: 0,
+            first: 0,
+            count: 0,
+        },
+        templates,
+        providers,
+    }
+}
+
+// The next of the events that are left, of all providers with a GUID in their order, that gives a GUID which is not marked.
+fn advance(
+    words: &[u32],
+    capacities: [u32; AREAS],
+    counts: [u32; AREAS],
+    walk: Walk,
+    guid: &[u32],
+    key: &[u32],
+    marks: &mut [bool; 65536],
+) -> Step
+    requires { ⌜ lists.Fit (now words) capacities counts × (right.tablesFit counts (right.entriesOf (now words) capacities counts area.TABLES) ≡ true) ⌝ }
+    requires { ⌜ (length (now guid) ≡ entry.GUID) × (length (now key) ≡ entry.KEY) ⌝ }
+    requires { ⌜ spec.Stands (now words) (lists.runOf capacities counts (area.place area.TEMPLATES)) walk ⌝ }
+    ensures { λ r. ⌜ spec.newOf (now (words .entry)) capacities counts (now (guid .entry)) (now (key .entry)) (now (marks .entry)) walk
+        ≡ spec.stepped (now (words .entry)) capacities counts (now (guid .entry)) (now (key .entry)) (now (marks .exit)) r ⌝ }
+    ensures { λ r. ⌜ spec.onward (now (words .entry)) (lists.runOf capacities counts (area.place area.TEMPLATES)) walk r ⌝ }
+{
+    let list = lists::run_of(capacities, counts, row::TEMPLATES);
+    let mut events = walk.events;
+    let mut templates = walk.templates;
+    let mut providers = walk.providers;
+    loop {
+        if let Next::Template(n, behind) = next_new(words, events, templates, list, key, marks) {
+            return Step::Template(
+                n,
+                Walk {
+                    events: behind,
+                    templates,
+                    providers,
+                },
+            );
+        }
+        let Found::Number(p) = lists::find(words, providers, row::PROVIDERS, 0, guid) else {
+            return Step::Over;
+        };
+        events = lists::owned(words, capacities, counts, p, kind::EVNT);
+        templates = lists::owned(words, capacities, counts, p, kind::TTBL);
+        providers = lists::behind(providers, p);
+    }
+}
+
+// How many GUIDs the events give, each once; one more than the most that are asked for, where there are more.
+fn count(
+    words: &[u32],
+    capacities: [u32; AREAS],
+    counts: [u32; AREAS],
+    guid: &[u32],
+    key: &[u32],
+    most: u32,
+) -> u32
+    requires { ⌜ lists.Fit (now words) capacities counts × (right.tablesFit counts (right.entriesOf (now words) capacities counts area.TABLES) ≡ true) ⌝ }
+    requires { ⌜ (length (now guid) ≡ entry.GUID) × (length (now key) ≡ entry.KEY) × (most ≤ 65536) ⌝ }
+    ensures { λ r. ⌜ r ≡ min (length (spec.givenBy (now (words .entry)) capacities counts (now (guid .entry)) (now (key .entry)))) (most + 1) ⌝ }
 {
     let mut marks = [false; 65536];
-    let mut rest = events;
+    let mut walk = begin(capacities, counts);
     let mut n: u32 = 0;
     while n <= most {
-        let Next::Template(_, behind) = next_new(words, rest, templates, list, key, &mut marks)
-        else {
+        let Step::Template(_, behind) = advance(
+            words,
+            capacities,
+            counts,
+            walk,
+            guid,
+            key,
+            &mut marks,
+        ) else {
             return n;
         };
-        rest = behind;
+        walk = behind;
         n += 1;
     }
     n
 }
 
-// Stores the GUIDs that some events give, each once.
-fn fill(words: &[u32], events: Run, templates: Run, list: Run, key: &[u32], guids: &mut [u32])
-    requires { ⌜ lists.few (area.width area.EVENTS) events (now words) × (length (now key) ≡ entry.KEY) ⌝ }
-    requires { ⌜ spec.Part list templates (now words) ⌝ }
-    requires { ⌜ entry.GUID * length (spec.givenBy (now words) list templates (now key) events) ≤ length (now guids) ⌝ }
-    ensures { λ _. ⌜ now (guids .exit) ≡ laid (now (guids .entry)) 0 (flat (spec.guidOf (now (words .entry)) list) (spec.givenBy (now (words .entry)) list templates (now (key .entry)) events)) ⌝ }
+// Stores the GUIDs that the events give, each once.
+fn fill(
+    words: &[u32],
+    capacities: [u32; AREAS],
+    counts: [u32; AREAS],
+    guid: &[u32],
+    key: &[u32],
+    guids: &mut [u32],
+)
+    requires { ⌜ lists.Fit (now words) capacities counts × (right.tablesFit counts (right.entriesOf (now words) capacities counts area.TABLES) ≡ true) ⌝ }
+    requires { ⌜ (length (now guid) ≡ entry.GUID) × (length (now key) ≡ entry.KEY) ⌝ }
+    requires { ⌜ entry.GUID * length (spec.givenBy (now words) capacities counts (now guid) (now key)) ≤ length (now guids) ⌝ }
+    ensures { λ _. ⌜ now (guids .exit) ≡ laid (now (guids .entry)) 0 (flat (spec.guidOf (now (words .entry)) (lists.runOf capacities counts (area.place area.TEMPLATES)))
+        (spec.givenBy (now (words .entry)) capacities counts (now (guid .entry)) (now (key .entry)))) ⌝ }
 {
+    let list = lists::run_of(capacities, counts, row::TEMPLATES);
     let mut marks = [false; 65536];
-    let mut rest = events;
+    let mut walk = begin(capacities, counts);
     let mut to = 0;
     loop {
-        let Next::Template(n, behind) = next_new(words, rest, templates, list, key, &mut marks)
-        else {
+        let Step::Template(n, behind) = advance(
+            words,
+            capacities,
+            counts,
+            walk,
+            guid,
+            key,
+            &mut marks,
+        ) else {
             return;
         };
         words::put(guids, to, guid_of(words, list, n));
-        rest = behind;
+        walk = behind;
         to += GUID;
     }
 }
 
-// Stores the GUIDs that a provider's events with a key give, each once, and tells how many; 9, and nothing is stored, where the lent list
-// is too short.
+// Stores the GUIDs that the events with a key give, each once, and tells how many; 9, and nothing is stored, where the lent list is too
+// short.
 fn give(
     words: &[u32],
     capacities: [u32; AREAS],
     counts: [u32; AREAS],
-    provider: u32,
     k: Key,
     guids: &mut [u32],
 ) -> GuidsFound
     requires { ⌜ lists.Fit (now words) capacities counts × (right.tablesFit counts (right.entriesOf (now words) capacities counts area.TABLES) ≡ true) ⌝ }
     requires { ⌜ length (now guids) / entry.GUID ≤ 65536 ⌝ }
-    ensures { λ r. ⌜ r ≡ right.guidsFound (spec.roomFor (now (guids .entry)) (spec.guidsOwned (now (words .entry)) capacities counts provider k)) ⌝ }
-    ensures { λ _. ⌜ now (guids .exit) ≡ right.guidsHeld (now (guids .entry)) (spec.roomFor (now (guids .entry)) (spec.guidsOwned (now (words .entry)) capacities counts provider k)) ⌝ }
+    ensures { λ r. ⌜ r ≡ right.guidsFound (spec.roomFor (now (guids .entry)) (right.guidsOf (now (words .entry)) capacities counts k)) ⌝ }
+    ensures { λ _. ⌜ now (guids .exit) ≡ right.guidsHeld (now (guids .entry)) (spec.roomFor (now (guids .entry)) (right.guidsOf (now (words .entry)) capacities counts k)) ⌝ }
 {
+    let guid = [k.guid.a, k.guid.b, k.guid.c, k.guid.d];
     let fields = [
         k.identifier,
         k.version,
@@ -230,11 +331,8 @@ fn give(
         k.low,
         k.high,
     ];
-    let events = lists::owned(words, capacities, counts, provider, kind::EVNT);
-    let templates = lists::owned(words, capacities, counts, provider, kind::TTBL);
-    let list = lists::run_of(capacities, counts, row::TEMPLATES);
     let capacity = (guids.len() / GUID) as u32;
-    let n = count(words, events, templates, list, &fields, capacity);
+    let n = count(words, capacities, counts, &guid, &fields, capacity);
     if capacity < n {
         return GuidsFound::Refused(Refusal {
             code: 9,
@@ -244,7 +342,7 @@ fn give(
             second: capacity as u64,
         });
     }
-    fill(words, events, templates, list, &fields, guids);
+    fill(words, capacities, counts, &guid, &fields, guids);
     GuidsFound::Given(n)
 }
 
@@ -264,11 +362,5 @@ pub fn templates_for(
     if let Verdict::Refused(r) = lists::fit_together(words, capacities, counts) {
         return GuidsFound::Refused(r);
     }
-    let g = key.guid;
-    let guid = [g.a, g.b, g.c, g.d];
-    let providers = lists::run_of(capacities, counts, row::PROVIDERS);
-    let Found::Number(provider) = lists::find(words, providers, row::PROVIDERS, 0, &guid) else {
-        return GuidsFound::Given(0);
-    };
-    give(words, capacities, counts, provider, key, guids)
+    give(words, capacities, counts, key, guids)
 }

@@ -19,7 +19,7 @@ use Rattle.format.specs.Provider.{Rows, definitions, events, maps, templ
 use Rattle.format.specs.Area.{PROVIDERS, TABLES, EVENTS, MAPS, TEMPLATES, GUIDS, rows, none, more}
 use Rattle.format.specs.Lists.{Entry, Owned, lastOf, kept, mapList, definitionWords, mapWords, itemWords, itemList, tableEntries}
 use Rattle.format.specs.Answer.{areas, filled, moderate, own, too-small, with-room}
-use Rattle.format.specs.Lookup.{alike, among, byKey, byOffset, counts-fit, entriesFrom, guidsHeld, guidsOf, once, position, select, tableFits, tablesFit, wordOf}
+use Rattle.format.specs.Lookup.{alike, among, byKey, byOffset, counts-fit, entriesFrom, guidsHeld, guidsOf, once, position, positions, select, tableFits, tablesFit, wordOf}
 use Rattle.format.specs.Handle.{shown}
 use Rattle.format.specs.declared.Name.{Name}
 use Rattle.format.specs.declared.Event.{Event}
@@ -194,28 +194,59 @@ too-few-words = refl
 
 -- by key: the GUID of the lowest template, once; nothing for another key; 9 where it does not fit; 10 for a kind that is none; 10 before 9 for a count over its capacity
 given-once : lookup 8 1 (replicate 5 0) ≡ done ((8 ∷ 8 ∷ 8 ∷ 8 ∷ []) ∷ [])
-unfolding byKey guidsOf moderate areas counts-fit entriesFrom position tablesFit select alike among once flat
+unfolding byKey guidsOf moderate areas counts-fit entriesFrom positions tablesFit select alike among once flat
 given-once = refl
 
 written-once : guidsHeld (replicate 5 0) (lookup 8 1 (replicate 5 0)) ≡ 8 ∷ 8 ∷ 8 ∷ 8 ∷ 0 ∷ []
-unfolding byKey guidsOf moderate areas counts-fit entriesFrom position tablesFit select alike among once flat laid
+unfolding byKey guidsOf moderate areas counts-fit entriesFrom positions tablesFit select alike among once flat laid
 written-once = refl
 
 another-key : lookup 8 2 [] ≡ done []
-unfolding byKey guidsOf moderate areas counts-fit entriesFrom position tablesFit select alike among once flat
+unfolding byKey guidsOf moderate areas counts-fit entriesFrom positions tablesFit select alike among once flat
 another-key = refl
 
 no-room : lookup 8 1 (replicate 3 0) ≡ refused (too-small GUIDS 0)
-unfolding byKey guidsOf moderate areas counts-fit entriesFrom position tablesFit select alike among once flat
+unfolding byKey guidsOf moderate areas counts-fit entriesFrom positions tablesFit select alike among once flat
 no-room = refl
 
 no-kind : lookup 9 1 [] ≡ refused (own 10)
-unfolding byKey guidsOf moderate areas counts-fit entriesFrom position tablesFit select alike among once flat
+unfolding byKey guidsOf moderate areas counts-fit entriesFrom positions tablesFit select alike among once flat
 no-kind = refl
 
 ten-before-nine : byKey (words 8) some one-map (key 1) [] ≡ refused (own 10)
-unfolding byKey guidsOf moderate areas counts-fit entriesFrom position tablesFit select alike among once flat
+unfolding byKey guidsOf moderate areas counts-fit entriesFrom positions tablesFit select alike among once flat
 ten-before-nine = refl
+
+-- Two providers of one GUID, with a third between them, and four events with one key: of the first provider at 50 and 90, of the last at
+-- 76 and 60. The first has a template at 50, the last at 76, 60 and 90; those at 50 and 60 have one GUID. With how many of the events each
+-- has, and which is the last provider's first.
+abbrev three : List ℕ
+three = more PROVIDERS 3 (more TABLES 5 (more EVENTS 4 (more TEMPLATES 4 none)))
+
+abbrev of-two : ℕ → ℕ → List ℕ
+of-two n first =
+    (1 ∷ 2 ∷ 3 ∷ 4 ∷ replicate 5 0) ++ (1 ∷ 2 ∷ 3 ∷ 5 ∷ replicate 5 0) ++ (1 ∷ 2 ∷ 3 ∷ 4 ∷ replicate 5 0)
+    ++ (2 ∷ 8 ∷ 0 ∷ 0 ∷ 0 ∷ 1 ∷ 3 ∷ 0 ∷ 0 ∷ [])
+    ++ (2 ∷ 2 ∷ 0 ∷ 0 ∷ 0 ∷ first ∷ n ∷ 0 ∷ 0 ∷ [])
+    ++ (1 ∷ 2 ∷ 0 ∷ 0 ∷ 0 ∷ 0 ∷ 4 ∷ 0 ∷ 0 ∷ [])
+    ++ (0 ∷ 2 ∷ 0 ∷ 0 ∷ 0 ∷ 0 ∷ n ∷ 0 ∷ 0 ∷ [])
+    ++ (0 ∷ 8 ∷ 0 ∷ 0 ∷ 0 ∷ 0 ∷ 1 ∷ 0 ∷ 0 ∷ [])
+    ++ event 50 ++ event 90 ++ event 76 ++ event 60
+    ++ temp 50 5 ++ temp 76 8 ++ temp 60 5 ++ temp 90 9
+
+-- in the order of the providers, each event in its own provider's templates, a GUID once over both; 9 counts that total
+both-providers : byKey (of-two 2 2) three three (key 1) (replicate 8 0) ≡ done ((5 ∷ 5 ∷ 5 ∷ 5 ∷ []) ∷ (8 ∷ 8 ∷ 8 ∷ 8 ∷ []) ∷ [])
+unfolding byKey guidsOf moderate areas counts-fit entriesFrom positions tablesFit select alike among once flat
+both-providers = refl
+
+no-room-for-both : byKey (of-two 2 2) three three (key 1) (replicate 7 0) ≡ refused (too-small GUIDS 1)
+unfolding byKey guidsOf moderate areas counts-fit entriesFrom positions tablesFit select alike among once flat
+no-room-for-both = refl
+
+-- events that damaged lists give to both are gone through for each
+events-of-both : byKey (of-two 4 0) three three (key 1) (replicate 12 0) ≡ done ((5 ∷ 5 ∷ 5 ∷ 5 ∷ []) ∷ (9 ∷ 9 ∷ 9 ∷ 9 ∷ []) ∷ (8 ∷ 8 ∷ 8 ∷ 8 ∷ []) ∷ [])
+unfolding byKey guidsOf moderate areas counts-fit entriesFrom positions tablesFit select alike among once flat
+events-of-both = refl
 
 -- a table entry with an empty range, of a kind and of none
 eighth-kind : tableFits some (0 ∷ 8 ∷ replicate 7 0) ≡ true

@@ -21,8 +21,8 @@ use Rattle.format.specs.Provider.{Rows, definitions, events, maps, templ
 use Rattle.format.specs.Crim.{Crim, crim}
 use Rattle.format.specs.Lists.{Entry, kept, Owned, ownedTables, listOf, rowCount, after, tableEntries, guidWords, providerWords, eventWords, templateWords, eventsIn, templatesIn, lists}
 use Rattle.format.specs.Answer.{own, too-small, lent-enough, with-room, reading, counted, answer, held, Allowed}
-use Rattle.format.specs.Lookup.{entriesOf, wordOf, counts-fit, select, position, numbered, byOffset, alike, once, tablesFit, ownedBy, keyed, guidAtOffset, guidsOf, byKey}
-use Rattle.format.specs.Join.{those, the-first, eventsOf, templatesOf, asked, templateGuid, join}
+use Rattle.format.specs.Lookup.{entriesOf, wordOf, counts-fit, select, position, positions, numbered, byOffset, alike, once, tablesFit, ownedBy, keyed, guidAtOffset, guidsOf, byKey}
+use Rattle.format.specs.Join.{those, the-first, eventsOf, templatesOf, asked, guidsFrom, join}
 use Rattle.format.specs.steps.Parts.{behindAll}
 use Rattle.format.specs.theorems.Grows.{behindAll-grows}
 use Rattle.format.specs.theorems.Listed.{owned, itemized, lists-itemized, First}
@@ -121,18 +121,19 @@ module _ {A : Type 0} (words : A → Entry) (p : Entry → Bool) where
       go [] = refl
       go (x ∷ xs) = refl
 
-  -- and its number among all of them
-  first-position : {B : Type 0} (F : ℕ → List B) (G : A → List B) (all : List A) → ((qs : List A) (x : A) (rs : List A) → all ≡ qs ++ x ∷ rs → F (length qs) ≡ G x)
-      → (qs rs : List A) → all ≡ qs ++ rs → flat F (position p (length qs) (map words rs)) ≡ flat G (the-first (λ a. p (words a)) rs)
-  unfolding position those flat
-  first-position F G all h qs [] e = refl
-  first-position {B} F G all h qs (x ∷ rs) e =
-      go (p (words x)) (first-position F G all h (qs ++ x ∷ []) rs (e ∙ sym (append-assoc qs (x ∷ []) rs)))
+  -- and their numbers among all of them
+  words-positions : {B : Type 0} (F : ℕ → List B) (G : A → List B) (all : List A) → ((qs : List A) (x : A) (rs : List A) → all ≡ qs ++ x ∷ rs → F (length qs) ≡ G x)
+      → (qs rs : List A) → all ≡ qs ++ rs → flat F (positions p (length qs) (map words rs)) ≡ flat G (those (λ a. p (words a)) rs)
+  unfolding positions those flat
+  words-positions F G all h qs [] e = refl
+  words-positions {B} F G all h qs (x ∷ rs) e =
+      go (p (words x)) (rw (length-append qs (x ∷ []), add-one) at (words-positions F G all h (qs ++ x ∷ []) rs (e ∙ sym (append-assoc qs (x ∷ []) rs))))
     where
-      go : (t : Bool) → flat F (position p (length (qs ++ x ∷ [])) (map words rs)) ≡ flat G (the-first (λ a. p (words a)) rs)
-          → flat F (choose t (length qs ∷ []) (position p (suc (length qs)) (map words rs))) ≡ flat G (take 1 (choose t (x ∷ those (λ a. p (words a)) rs) (those (λ a. p (words a)) rs)))
-      go true ih = ap (λ (l : List B). l ++ []) (h qs x rs e)
-      go false ih = rw (← add-one, ← length-append qs (x ∷ [])) ih
+      go : (t : Bool) → flat F (positions p (suc (length qs)) (map words rs)) ≡ flat G (those (λ a. p (words a)) rs)
+          → flat F (choose t (length qs ∷ positions p (suc (length qs)) (map words rs)) (positions p (suc (length qs)) (map words rs)))
+          ≡ flat G (choose t (x ∷ those (λ a. p (words a)) rs) (those (λ a. p (words a)) rs))
+      go true ih = ap₂ (λ (a b : List B). a ++ b) (h qs x rs e) ih
+      go false ih = ih
 
 -- the lists that the lookup by key goes by, and what it finds of a provider
 abbrev tableList : List Provider → List Entry
@@ -146,27 +147,24 @@ templateList ps = flat (λ o. map templateWords (templatesIn (o .table .rows))) 
 
 module _ (key : Key) where
   abbrev foundOf : List Provider → ℕ → List Entry
-  foundOf ps n =
-      once [] (flat (λ e. guidAtOffset (ownedBy (tableList ps) n TTBL (templateList ps)) (wordOf EVENT-TEMPLATE e)) (select (keyed key) (ownedBy (tableList ps) n EVNT (eventList ps))))
-
-  abbrev joinOf : Provider → List Entry
-  joinOf p = once [] (flat (templateGuid (templatesOf p)) (those (asked key) (eventsOf p)))
+  foundOf ps n = flat (λ e. guidAtOffset (ownedBy (tableList ps) n TTBL (templateList ps)) (wordOf EVENT-TEMPLATE e)) (select (keyed key) (ownedBy (tableList ps) n EVNT (eventList ps)))
 
   guid-words : (ts : List Template) (offset : ℕ) → guidAtOffset (map templateWords ts) offset ≡ map (λ t. guidWords (t .guid)) (the-first (λ t. eqb (t .offset) offset) ts)
   guid-words ts offset = first-words templateWords (λ t. eqb (wordOf TEMPLATE-OFFSET t) offset) (λ t. take GUID (drop TEMPLATE-GUID t)) ts
 
-  one-join : (qs : List Provider) (p : Provider) (rs : List Provider) → All (λ p. All Known (kept (p .elements))) (qs ++ p ∷ rs) → foundOf (qs ++ p ∷ rs) (length qs) ≡ joinOf p
+  one-join : (qs : List Provider) (p : Provider) (rs : List Provider) → All (λ p. All Known (kept (p .elements))) (qs ++ p ∷ rs) → foundOf (qs ++ p ∷ rs) (length qs) ≡ guidsFrom key p
   one-join qs p rs a =
       rw (templates-range qs p rs a, events-range qs p rs a, select-words eventWords (keyed key) (eventsOf p))
-      (ap (once []) (flat-map (λ e. guidAtOffset (map templateWords (templatesOf p)) (wordOf EVENT-TEMPLATE e)) eventWords (those (asked key) (eventsOf p)) ∙ simp (guid-words (templatesOf p))))
+      (flat-map (λ e. guidAtOffset (map templateWords (templatesOf p)) (wordOf EVENT-TEMPLATE e)) eventWords (those (asked key) (eventsOf p)) ∙ simp (guid-words (templatesOf p)))
 
   guids-join : (ps : List Provider) → All (λ p. All Known (kept (p .elements))) ps
-      → flat (foundOf ps) (position (λ p. alike (take GUID p) (guidWords (key .guid))) 0 (map providerWords ps)) ≡ join ps key
+      → once [] (flat (foundOf ps) (positions (λ p. alike (take GUID p) (guidWords (key .guid))) 0 (map providerWords ps))) ≡ join ps key
   unfolding join
   guids-join ps a =
-      first-position providerWords (λ p. alike (take GUID p) (guidWords (key .guid))) (foundOf ps) joinOf ps
-      (λ qs p rs e. subst (λ (ps : List Provider). All (λ p. All Known (kept (p .elements))) ps → foundOf ps (length qs) ≡ joinOf p) (sym e) (one-join qs p rs) a)
-      [] ps refl
+      ap (once [])
+      (words-positions providerWords (λ p. alike (take GUID p) (guidWords (key .guid))) (foundOf ps) (guidsFrom key) ps
+      (λ qs p rs e. subst (λ (ps : List Provider). All (λ p. All Known (kept (p .elements))) ps → foundOf ps (length qs) ≡ guidsFrom key p) (sym e) (one-join qs p rs) a)
+      [] ps refl)
 
 -- An accepted reading, with a capacity for each list: what it leaves in the lent words, and what it counts.
 module _ (bytes words capacities : List ℕ) (c : Crim) (e : reading bytes words capacities ≡ done c) (n : length capacities ≡ length rows) where

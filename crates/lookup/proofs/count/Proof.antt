@@ -1,26 +1,37 @@
 -- The invariant: those that are left are the ones that are not counted yet.
 use Prim.Native.Nat.{_+_, _≤_}
-use mathlib.Core.Path.{_≡_, ap, _∙_, subst}
+use mathlib.Core.Path.{_≡_, ap, sym, _∙_, subst}
 use lib.ListN.{length}
-use Rattle.format.specs.Area.{EVENTS, width}
-use Rattle.lists.specs.Found.{few}
-use Rattle.lookup.specs.Given.{numbers, firsts, told, behind}
+use Rattle.format.specs.Area.{TEMPLATES, place}
+use Rattle.lists.specs.Found.{runOf}
+use Rattle.lookup.specs.Given.{unset, Stands, ahead, newOf, givenBy, stepped, onward}
+use Rattle.lookup.specs.ByKey.{begins}
 use borrow.Author.Needs.{needs}
 use native.Mathlib.Omega.{arith}
 use Rattle.lookup.proofs.count.Statement.{statement}
 use Rattle.lookup.proofs.count.Tie as tie
 
 abbrev Inv-loop : tie.InvT-loop
-Inv-loop words templates list key most marks₀ rest₀ n₀ marks rest n =
-    few (width EVENTS) rest words
+Inv-loop words capacities counts guid key most marks₀ walk₀ n₀ marks walk n =
+    Stands words (runOf capacities counts (place TEMPLATES)) walk
     × (n ≤ most + 1)
-    × (length (firsts words list marks₀ (numbers words templates key rest₀)) ≡ n + length (firsts words list marks (numbers words templates key rest)))
+    × (length (givenBy words capacities counts guid key) ≡ n + length (newOf words capacities counts guid key marks walk))
 
 abbrev μ-loop : tie.MeasureT-loop
-μ-loop words templates list key most marks₀ rest₀ n₀ marks rest n = rest .count
+μ-loop words capacities counts guid key most marks₀ walk₀ n₀ marks walk n = ahead walk
 
 loop-holds : tie.Need-loop-holds Inv-loop μ-loop
-loop-holds c = (search needs, search needs, search needs)
+loop-holds c =
+    let o = c .before .before .before .before in
+    let a = o .args in
+    let e = sym (c .begin .ensures) in (
+      subst (Stands (a .words .now) (runOf (a .capacities) (a .counts) (place TEMPLATES))) e (begins (a .words .now) (a .capacities) (a .counts) (o .pre .0 .0) (o .pre .0 .1)),
+      omega arith,
+      omega (arith, ap (λ w. length (newOf (a .words .now) (a .capacities) (a .counts) (a .guid .now) (a .key .now) unset w)) e),
+    )
+
+advance-requires : tie.Need-advance-requires Inv-loop μ-loop
+advance-requires c κs = search needs
 
 enum-told : tie.Need-enum-told Inv-loop μ-loop
 enum-told c = search needs
@@ -29,24 +40,27 @@ returns : tie.Need-returns Inv-loop μ-loop
 returns c =
     let x = c .before .before in
     let l = x .before .before .before in
-    let a = l .before .before .before .args in
-    let e = x .next-new .ensures .0 ∙ ap (told (a .words .now) (a .list) (a .templates) (a .key .now) _) (c .enum-told .given .1) in
-    omega (arith, l .loop .inv .2, ap length e, x .before .before .loop-test .taken)
+    let a = l .before .before .before .before .before .args in
+    omega (arith, l .loop .inv .2, ap length (x .advance .ensures .0 ∙ ap (stepped (a .words .now) (a .capacities) (a .counts) (a .guid .now) (a .key .now) _) (c .enum-told .given .1)), x .before .before .loop-test .taken)
+
+add-n : tie.Need-add-n Inv-loop μ-loop
+add-n c = omega (arith, c .before .before .before .before .before .loop-test .taken, c .before .before .before .before .before .before .before .before .before .before .before .pre .1 .2)
 
 loop-less : tie.Need-loop-less Inv-loop μ-loop
 loop-less c =
     let x = c .before .before .before in
     let l = x .before .before .before in
-    subst (behind (l .loop .rest) (l .before .before .before .args .list)) (c .before .behind .given .1) (x .next-new .ensures .1) .1
+    let a = l .before .before .before .before .before .args in
+    let h = subst (onward (a .words .now) (runOf (a .capacities) (a .counts) (place TEMPLATES)) (l .loop .walk)) (c .before .behind .given .1) (x .advance .ensures .1) in
+    h .2
 
 loop-again : tie.Need-loop-again Inv-loop μ-loop
 loop-again c =
     let x = c .before .before .before in
     let l = x .before .before .before in
-    let a = l .before .before .before .args in
-    let e = x .next-new .ensures .0 ∙ ap (told (a .words .now) (a .list) (a .templates) (a .key .now) _) (c .before .behind .given .1) in
-    let h = subst (behind (l .loop .rest) (a .list)) (c .before .behind .given .1) (x .next-new .ensures .1) in
-    ((omega (arith, h, l .loop .inv .0), omega (arith, h, l .loop .inv .0)), omega (arith, x .before .before .loop-test .taken), omega (arith, l .loop .inv .2, ap length e))
+    let a = l .before .before .before .before .before .args in
+    let h = subst (onward (a .words .now) (runOf (a .capacities) (a .counts) (place TEMPLATES)) (l .loop .walk)) (c .before .behind .given .1) (x .advance .ensures .1) in
+    (h .1, omega (arith, x .before .before .loop-test .taken), omega (arith, l .loop .inv .2, ap length (x .advance .ensures .0 ∙ ap (stepped (a .words .now) (a .capacities) (a .counts) (a .guid .now) (a .key .now) _) (c .before .behind .given .1))))
 
 returns-2 : tie.Need-returns-2 Inv-loop μ-loop
 returns-2 c = omega (arith, c .loop-test .left, c .before .loop .inv)
@@ -57,12 +71,13 @@ count-spec =
     (tie.spec
     Inv-loop
     μ-loop
-    loop-holds
     (λ c κs. search needs)
+    loop-holds
+    advance-requires
     (λ c. search needs)
     enum-told
     returns
-    (λ c. search needs)
+    add-n
     loop-less
     loop-again
     returns-2)

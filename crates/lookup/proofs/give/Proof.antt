@@ -1,75 +1,68 @@
 -- By the number that was counted.
+use Prim.Native.Nat.{_+_, _/_, min}
 use mathlib.Core.Path.{ap, sym, _∙_, subst}
-use Rattle.blob.specs.Laid.{laid}
-use Rattle.format.specs.Area.{EVENTS, width}
-use Rattle.format.specs.Lookup.{keyWords, guidsFound, guidsHeld}
+use lib.ListN.{length}
+use Rattle.blob.specs.Laid.{laid, flat}
+use Rattle.format.specs.Area.{TEMPLATES, place}
+use Rattle.format.specs.Entry.{GUID}
+use Rattle.format.specs.Lists.{guidWords}
+use Rattle.format.specs.Lookup.{keyWords, guidsOf, guidsFound, guidsHeld}
 use Rattle.format.specs.declared.GuidsFound.the-variants as guids
-use Rattle.lists.specs.Found.{few}
-use Rattle.lookup.specs.Given.{givenBy, roomFor, give-short, give-all, stored-guids}
-use Rattle.lookup.specs.ByKey.{events-in, part-in, owned-given}
+use Rattle.lists.specs.Found.{runOf}
+use Rattle.lookup.specs.Given.{givenBy, give-short, give-all, stored-guids}
+use Rattle.lookup.specs.ByKey.{key-given, key-counted}
 use borrow.Author.Needs.{needs}
 use native.Mathlib.Omega.{arith}
 use Rattle.lookup.proofs.give.Statement.{statement}
 use Rattle.lookup.proofs.give.Tie as tie
 
-count-requires : tie.Need-count-requires
-count-requires c κs =
-    let l = c .before in
-    let t = l .before in
-    let e = t .before in
-    let o = e .before .before .before in
-    let a = o .args in
-    ((subst (λ r. few (width EVENTS) r (a .words .now)) (sym (e .owned .ensures)) (events-in (a .words .now) (a .capacities) (a .counts) (o .pre .0 .0) (o .pre .0 .1) _), omega arith, o .pre .1), part-in (a .words .now) (a .capacities) (a .counts) (o .pre .0 .0) (o .pre .0 .1) _ _ _ (l .run-of .ensures) (t .owned2 .ensures))
-
 returns : tie.Need-returns
 returns c =
-    let n = c .before in
-    let l = n .before .before in
-    let t = l .before in
-    let e = t .before in
-    let o = e .before .before .before in
+    let i = c in
+    let o = i .before .before .before .before .before .before in
     let a = o .args in
-    let x = ap (roomFor (a .guids .now)) (sym (owned-given (a .words .now) (a .capacities) (a .counts) (a .provider) (a .k) _ _ _ (l .run-of .ensures) (t .owned2 .ensures) (e .owned .ensures))) ∙ give-short (a .words .now) (l .run-of .result) (t .owned2 .result) (keyWords (a .k)) (e .owned .result) (a .guids .now) _ (n .count .ensures) (c .if1 .taken) in
+    let k = key-counted (a .words .now) (a .capacities) (a .counts) (o .pre .0 .0) (o .pre .0 .1) (a .k) in
+    let e = i .before .count .ensures ∙ ap (λ m. min m (length (a .guids .now) / GUID + 1)) (sym k) in
+    let x = give-short (guidsOf (a .words .now) (a .capacities) (a .counts) (a .k)) (a .guids .now) _ e (i .if1 .taken) in
     (ap guidsFound (sym x), ap (guidsHeld (a .guids .now)) (sym x))
 
 fill-requires : tie.Need-fill-requires
 fill-requires c κs =
-    let i = c .before .before in
-    let l = i .before .before .before in
-    let t = l .before in
-    let e = t .before in
-    let o = e .before .before .before in
+    let i = c .before .before .before in
+    let o = i .before .before .before .before .before .before in
     let a = o .args in
-    ((subst (λ r. few (width EVENTS) r (a .words .now)) (sym (e .owned .ensures)) (events-in (a .words .now) (a .capacities) (a .counts) (o .pre .0 .0) (o .pre .0 .1) _), omega arith), (part-in (a .words .now) (a .capacities) (a .counts) (o .pre .0 .0) (o .pre .0 .1) _ _ _ (l .run-of .ensures) (t .owned2 .ensures), give-all (a .words .now) (l .run-of .result) (t .owned2 .result) (keyWords (a .k)) (e .owned .result) (a .guids .now) _ (i .before .count .ensures) (i .if1 .left) .2))
+    let k = key-counted (a .words .now) (a .capacities) (a .counts) (o .pre .0 .0) (o .pre .0 .1) (a .k) in
+    let e = i .before .count .ensures ∙ ap (λ m. min m (length (a .guids .now) / GUID + 1)) (sym k) in
+    (o .pre .0, ((omega arith, omega arith), omega (arith, k, give-all (guidsOf (a .words .now) (a .capacities) (a .counts) (a .k)) (a .guids .now) _ e (i .if1 .left) .2)))
 
 returns-2 : tie.Need-returns-2
 returns-2 c =
-    let f = c .before .before in
-    let i = f .before .before .before in
-    let l = i .before .before .before in
-    let t = l .before in
-    let e = t .before in
-    let o = e .before .before .before in
+    let i = c .before .before .before .before .before .before in
+    let o = i .before .before .before .before .before .before in
     let a = o .args in
-    let g = give-all (a .words .now) (l .run-of .result) (t .owned2 .result) (keyWords (a .k)) (e .owned .result) (a .guids .now) _ (i .before .count .ensures) (i .if1 .left) in
-    let x = ap (roomFor (a .guids .now)) (sym (owned-given (a .words .now) (a .capacities) (a .counts) (a .provider) (a .k) _ _ _ (l .run-of .ensures) (t .owned2 .ensures) (e .owned .ensures))) ∙ g .0 in (
-      ap guids.Given (g .1) ∙ ap guidsFound (sym x),
-      f .fill .ensures ∙ ap (laid (a .guids .now) 0) (stored-guids (a .words .now) (l .run-of .result) (givenBy (a .words .now) (l .run-of .result) (t .owned2 .result) (keyWords (a .k)) (e .owned .result))) ∙ ap (guidsHeld (a .guids .now)) (sym x),
+    let k = key-counted (a .words .now) (a .capacities) (a .counts) (o .pre .0 .0) (o .pre .0 .1) (a .k) in
+    let e = i .before .count .ensures ∙ ap (λ m. min m (length (a .guids .now) / GUID + 1)) (sym k) in
+    let g = give-all (guidsOf (a .words .now) (a .capacities) (a .counts) (a .k)) (a .guids .now) _ e (i .if1 .left) in
+    let list = runOf (a .capacities) (a .counts) (place TEMPLATES) in
+    let w = key-given (a .words .now) (a .capacities) (a .counts) (o .pre .0 .0) (o .pre .0 .1) (a .k) in (
+      ap guids.Given (g .1) ∙ ap guidsFound (sym (g .0)),
+      c .before .before .fill .ensures
+          ∙ ap (laid (a .guids .now) 0) (stored-guids (a .words .now) list (givenBy (a .words .now) (a .capacities) (a .counts) (guidWords (a .k .guid)) (keyWords (a .k))) ∙ ap (flat (λ g. g)) (sym w))
+          ∙ ap (guidsHeld (a .guids .now)) (sym (g .0)),
     )
 
 pub give-spec : {M : Type 1} → statement M
 give-spec =
     tie.close
     (tie.spec
-    (λ c κs. search needs)
-    (λ c κs. search needs)
-    (λ c κs. search needs)
     (λ c. search needs)
     (λ c. search needs)
-    count-requires
+    (λ c. search needs)
+    (λ c κs. search needs)
     (λ c. search needs)
     (λ c. search needs)
     returns
+    (λ c. search needs)
     (λ c. search needs)
     fill-requires
     (λ c. search needs)

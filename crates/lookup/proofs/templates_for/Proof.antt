@@ -1,12 +1,8 @@
 -- By the tests, in their order.
-use mathlib.Core.Path.{refl, ap, sym, _∙_, subst}
-use Rattle.format.specs.Area.{PROVIDERS, place, width}
-use Rattle.format.specs.Lists.{guidWords}
-use Rattle.format.specs.Lookup.{position, guidsFound, guidsHeld}
-use Rattle.lists.specs.Fit.{fits-together, whole-few}
-use Rattle.lists.specs.Found.{entries, few, has, found}
-use Rattle.lookup.specs.Given.{roomFor}
-use Rattle.lookup.specs.ByKey.{key-wide, key-refused, key-room, key-found, key-none, given-none, refusal-keeps}
+use mathlib.Core.Path.{refl, ap, sym, _∙_}
+use Rattle.format.specs.Lookup.{guidsFound, guidsHeld}
+use Rattle.lists.specs.Fit.{fits-together}
+use Rattle.lookup.specs.ByKey.{key-wide, key-refused, key-room, refusal-keeps}
 use borrow.Author.Needs.{needs}
 use native.Mathlib.Omega.{arith}
 use Rattle.lookup.proofs.templates_for.Statement.{statement}
@@ -26,42 +22,21 @@ returns-2 c =
 enum-told : tie.Need-enum-told
 enum-told c = search needs
 
-find-requires : tie.Need-find-requires
-find-requires c κs =
-    let e = c .before .before .before in
+give-requires : tie.Need-give-requires
+give-requires c κs =
+    let e = c .before in
     let v = e .before .before in
     let a = v .before .before .before .before .args in
-    let t = fits-together (a .words .now) (a .capacities) (a .counts) (sym (v .fit-together .ensures) ∙ e .enum-told .given .1) in
-    ((omega arith, omega arith), subst (λ r. few (width PROVIDERS) r (a .words .now)) (sym (c .before .run-of .ensures)) (whole-few (a .words .now) (a .capacities) (a .counts) (t .0) (place PROVIDERS)))
+    (fits-together (a .words .now) (a .capacities) (a .counts) (sym (v .fit-together .ensures) ∙ e .enum-told .given .1), v .before .if1 .left)
 
 returns-3 : tie.Need-returns-3
 returns-3 c =
-    let f = c .before .before in
-    let e = f .before .before .before .before in
-    let v = e .before .before in
-    let a = v .before .before .before .before .args in
-    let t = fits-together (a .words .now) (a .capacities) (a .counts) (sym (v .fit-together .ensures) ∙ e .enum-told .given .1) in
-    (let x = given-none (a .guids .now) _ (key-room (a .words .now) (a .capacities) (a .counts) (a .key) (a .guids .now) (v .before .if1 .left) (t .0) (t .1) ∙ ap (roomFor (a .guids .now)) (key-none (a .words .now) (a .capacities) (a .counts) (t .0) (a .key) (ap (λ r. found (position (has 0 (guidWords (a .key .guid))) (r .first) (entries (width PROVIDERS) r (a .words .now)))) (sym (f .before .before .run-of .ensures)) ∙ sym (f .find .ensures) ∙ c .enum-told2 .given .1))) in record { answered = x .0; kept = x .1 })
-
-give-requires : tie.Need-give-requires
-give-requires c κs =
-    let f = c .before .before .before .before in
-    let e = f .before .before .before .before in
-    let v = e .before .before in
-    let a = v .before .before .before .before .args in
-    let t = fits-together (a .words .now) (a .capacities) (a .counts) (sym (v .fit-together .ensures) ∙ e .enum-told .given .1) in
-    (t, v .before .if1 .left)
-
-returns-4 : tie.Need-returns-4
-returns-4 c =
     let u = c .before .before in
-    let n = u .before .before .before in
-    let f = n .before .before in
-    let e = f .before .before .before .before in
+    let e = u .before .before in
     let v = e .before .before in
     let a = v .before .before .before .before .args in
     let t = fits-together (a .words .now) (a .capacities) (a .counts) (sym (v .fit-together .ensures) ∙ e .enum-told .given .1) in
-    let x = sym (key-room (a .words .now) (a .capacities) (a .counts) (a .key) (a .guids .now) (v .before .if1 .left) (t .0) (t .1) ∙ ap (roomFor (a .guids .now)) (key-found (a .words .now) (a .capacities) (a .counts) (t .0) (a .key) _ (ap (λ r. found (position (has 0 (guidWords (a .key .guid))) (r .first) (entries (width PROVIDERS) r (a .words .now)))) (sym (f .before .before .run-of .ensures)) ∙ sym (f .find .ensures) ∙ n .provider .given .1) (t .1))) in
+    let x = sym (key-room (a .words .now) (a .capacities) (a .counts) (a .key) (a .guids .now) (v .before .if1 .left) (t .0) (t .1)) in
     record { answered = u .give .ensures .0 ∙ ap guidsFound x; kept = u .give .ensures .1 ∙ ap (guidsHeld (a .guids .now)) x }
 
 pub templates-for-spec : {M : Type 1} → statement M
@@ -75,12 +50,6 @@ templates-for-spec =
     (λ c. search needs)
     returns-2
     enum-told
-    (λ c κs. search needs)
-    (λ c. search needs)
-    find-requires
-    (λ c. search needs)
-    (λ c. search needs)
-    returns-3
     give-requires
     (λ c. search needs)
-    returns-4)
+    returns-3)

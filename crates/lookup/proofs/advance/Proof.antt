@@ -1,0 +1,165 @@
+-- The invariant: what is left decides.
+use Prim.{tt}
+use Prim.Native.Nat.{_≤_}
+use mathlib.Core.Path.{_≡_, refl, ap, ap₂, sym, _∙_, subst}
+use Rattle.format.specs.Area.{TEMPLATES, place}
+use Rattle.format.specs.Table.{EVNT}
+use Rattle.lists.specs.Found.{runOf, owned}
+use Rattle.lists.specs.declared.Run.{Run}
+use Rattle.lookup.specs.declared.Walk.{Walk}
+use Rattle.lookup.specs.Given.{Part, behind, Stands, ahead, cameTo, newOf, tells-over, tells-template}
+use Rattle.lookup.specs.ByKey.{come-to, come-to-none, came-to}
+use borrow.Author.Needs.{needs}
+use native.Mathlib.Omega.{arith}
+use Rattle.lookup.proofs.advance.Statement.{statement}
+use Rattle.lookup.proofs.advance.Tie as tie
+
+abbrev at : Run → Run → Run → Walk
+at events templates providers = record { events = events; templates = templates; providers = providers }
+
+abbrev Inv-loop : tie.InvT-loop
+Inv-loop words capacities counts guid key marks₀ list events₀ templates₀ providers₀ marks events templates providers =
+    Stands words (runOf capacities counts (place TEMPLATES)) (at events templates providers)
+    × (ahead (at events templates providers) ≤ ahead (at events₀ templates₀ providers₀))
+    × (newOf words capacities counts guid key marks₀ (at events₀ templates₀ providers₀) ≡ newOf words capacities counts guid key marks (at events templates providers))
+
+abbrev μ-loop : tie.MeasureT-loop
+μ-loop words capacities counts guid key marks₀ list events₀ templates₀ providers₀ marks events templates providers = providers .count
+
+run-of-requires : tie.Need-run-of-requires Inv-loop μ-loop
+run-of-requires c κs = search needs
+
+loop-holds : tie.Need-loop-holds Inv-loop μ-loop
+loop-holds c =
+    let o = c .before .before .before .before .before .before .before in
+    (o .pre .1 .1, omega arith, refl)
+
+next-new-requires : tie.Need-next-new-requires Inv-loop μ-loop
+next-new-requires c κs =
+    let l = c .before in
+    let o = l .before .before .before .before .before .before .before .before in
+    ((l .loop .inv .0 .0, o .pre .1 .0 .1), subst (λ (r : Run). Part r (l .loop .templates) (o .args .words .now)) (sym (l .before .before .before .before .run-of .ensures)) (l .loop .inv .0 .1))
+
+enum-known-n : tie.Need-enum-known-n Inv-loop μ-loop
+enum-known-n c = search needs
+
+returns : tie.Need-returns Inv-loop μ-loop
+returns c =
+    let n = c .before in
+    let x = n .before .before in
+    let l = x .before .before in
+    let r = l .before .before .before .before in
+    let a = r .before .before .before .before .args in
+    let h = subst (behind (l .loop .events) (r .run-of .result)) (n .n .given .1) (x .next-new .ensures .1) in
+    let i = l .loop .inv .0 in (
+      l .loop .inv .2 ∙ tells-template (a .words .now) (r .run-of .result) (l .loop .templates) (a .key .now) (l .loop .marks) (l .loop .events) _ _ (x .next-new .ensures .0) _ (r .run-of .ensures) _ _ _ (n .n .given .1),
+      (omega (arith, h .0, ap (λ (r : Run). r .count) (r .run-of .ensures)), ((omega (arith, h, i .0), omega (arith, h, i .0)), i .1, i .2), omega (arith, h, l .loop .inv .1)),
+    )
+
+enum-told : tie.Need-enum-told Inv-loop μ-loop
+enum-told c = search needs
+
+find-requires : tie.Need-find-requires Inv-loop μ-loop
+find-requires c κs =
+    let l = c .before .before .before .before in
+    let o = l .before .before .before .before .before .before .before .before in
+    ((omega arith, omega (arith, o .pre .1 .0 .0)), l .loop .inv .0 .2)
+
+enum-known-p : tie.Need-enum-known-p Inv-loop μ-loop
+enum-known-p c = search needs
+
+enum-told-2 : tie.Need-enum-told-2 Inv-loop μ-loop
+enum-told-2 c = search needs
+
+returns-2 : tie.Need-returns-2 Inv-loop μ-loop
+returns-2 c =
+    let f = c .before .before in
+    let e = f .before in
+    let x = e .before .before in
+    let l = x .before .before in
+    let r = l .before .before .before .before in
+    let a = r .before .before .before .before .args in
+    let w = at (l .loop .events) (l .loop .templates) (l .loop .providers) in
+    (l .loop .inv .2 ∙ tells-over (a .words .now) (r .run-of .result) (l .loop .templates) (a .key .now) (l .loop .marks) (l .loop .events) _ _ (x .next-new .ensures .0) _ (r .run-of .ensures) _ (e .enum-told .given .1) ∙ come-to-none (a .words .now) (a .capacities) (a .counts) (a .guid .now) (a .key .now) w _ (sym (f .find .ensures) ∙ c .enum-told2 .given .1), tt)
+
+owned-requires : tie.Need-owned-requires Inv-loop μ-loop
+owned-requires c κs =
+    let o = c .before .before .before .before .before .before .before .before .before .before .before .before .before .before .before .before in
+    (o .pre .0 .0, omega arith, omega arith)
+
+owned-requires-2 : tie.Need-owned-requires-2 Inv-loop μ-loop
+owned-requires-2 c κs =
+    let o = c .before .before .before .before .before .before .before .before .before .before .before .before .before .before .before .before .before in
+    (o .pre .0 .0, omega arith, omega arith)
+
+behind-requires : tie.Need-behind-requires Inv-loop μ-loop
+behind-requires c κs =
+    let p = c .before .before .before in
+    let f = p .before .before in
+    let e = f .before in
+    let x = e .before .before in
+    let l = x .before .before in
+    let r = l .before .before .before .before in
+    let o = r .before .before .before .before in
+    let a = o .args in
+    let w = at (l .loop .events) (l .loop .templates) (l .loop .providers) in
+    let g = sym (f .find .ensures) ∙ p .p .given .1 in
+    let h = came-to (a .words .now) (a .capacities) (a .counts) (a .guid .now) (a .key .now) w (o .pre .0 .0) (o .pre .0 .1) (l .loop .inv .0) _ g in
+    (h .0, l .loop .inv .0 .2 .1)
+
+loop-less : tie.Need-loop-less Inv-loop μ-loop
+loop-less c =
+    let p = c .before .before .before .before in
+    let f = p .before .before in
+    let e = f .before in
+    let x = e .before .before in
+    let l = x .before .before in
+    let r = l .before .before .before .before in
+    let o = r .before .before .before .before in
+    let a = o .args in
+    let w = at (l .loop .events) (l .loop .templates) (l .loop .providers) in
+    let g = sym (f .find .ensures) ∙ p .p .given .1 in
+    let h = came-to (a .words .now) (a .capacities) (a .counts) (a .guid .now) (a .key .now) w (o .pre .0 .0) (o .pre .0 .1) (l .loop .inv .0) _ g in
+    rw (c .behind .ensures) (h .3)
+
+loop-again : tie.Need-loop-again Inv-loop μ-loop
+loop-again c =
+    let p = c .before .before .before .before in
+    let f = p .before .before in
+    let e = f .before in
+    let x = e .before .before in
+    let l = x .before .before in
+    let r = l .before .before .before .before in
+    let o = r .before .before .before .before in
+    let a = o .args in
+    let w = at (l .loop .events) (l .loop .templates) (l .loop .providers) in
+    let g = sym (f .find .ensures) ∙ p .p .given .1 in
+    let h = came-to (a .words .now) (a .capacities) (a .counts) (a .guid .now) (a .key .now) w (o .pre .0 .0) (o .pre .0 .1) (l .loop .inv .0) _ g in
+    let q : at (c .before .before .owned .result) (c .before .owned2 .result) (c .behind .result) ≡ cameTo (a .words .now) (a .capacities) (a .counts) (l .loop .providers) _ =
+    ap (λ (v : Run). at v (c .before .owned2 .result) (c .behind .result)) (c .before .before .owned .ensures)
+    ∙ ap₂ (λ (t u : Run). at (owned (a .words .now) (a .capacities) (a .counts) (p .p .given .0 .0) EVNT) t u) (c .before .owned2 .ensures) (c .behind .ensures) in
+    let n = l .loop .inv .2 ∙ tells-over (a .words .now) (r .run-of .result) (l .loop .templates) (a .key .now) (l .loop .marks) (l .loop .events) _ _ (x .next-new .ensures .0) _ (r .run-of .ensures) _ (e .enum-told .given .1) ∙ come-to (a .words .now) (a .capacities) (a .counts) (a .guid .now) (a .key .now) w _ _ g in
+    subst (λ (v : Walk). Stands (a .words .now) (runOf (a .capacities) (a .counts) (place TEMPLATES)) v × (ahead v ≤ ahead (a .walk)) × (newOf (a .words .now) (a .capacities) (a .counts) (a .guid .now) (a .key .now) (a .marks .now) (a .walk) ≡ newOf (a .words .now) (a .capacities) (a .counts) (a .guid .now) (a .key .now) (x .next-new .last .1 .1 .1 .1 .1 .0) v))
+    (sym q) (h .1, omega (arith, h .2, l .loop .inv .1), n)
+
+pub advance-spec : {M : Type 1} → statement M
+advance-spec =
+    tie.close
+    (tie.spec
+    Inv-loop
+    μ-loop
+    run-of-requires
+    loop-holds
+    next-new-requires
+    enum-known-n
+    returns
+    enum-told
+    find-requires
+    enum-known-p
+    enum-told-2
+    returns-2
+    owned-requires
+    owned-requires-2
+    behind-requires
+    loop-less
+    loop-again)
