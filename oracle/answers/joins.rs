@@ -32,16 +32,26 @@ impl<'a> Accepted<'a> {
         different.len() < providers.len()
     }
 
-    /// The original's index. Of providers with the same GUID it is given the first alone: that is
-    /// how the port differs.
+    /// The original's index.
     pub fn index(&self) -> BTreeMap<Key, Vec<Words>> {
-        if !self.repeats_a_guid() {
-            return index(&self.manifest);
-        }
-        let mut firsts = self.manifest.clone();
-        let mut seen = BTreeSet::new();
-        firsts.providers.retain(|p| seen.insert(guid(p.guid)));
-        index(&firsts)
+        index(&self.manifest)
+    }
+
+    /// What it would be with one provider alone, for each provider.
+    pub fn apart(&self) -> Vec<BTreeMap<Key, Vec<Words>>> {
+        let providers = self.manifest.providers.iter();
+        let alone = providers.map(|provider| {
+            let mut manifest = self.manifest.clone();
+            manifest.providers = vec![provider.clone()];
+            index(&manifest)
+        });
+        alone.collect()
+    }
+
+    /// The first provider with a GUID.
+    pub fn first_with(&self, words: &[u32]) -> Option<usize> {
+        let mut providers = self.manifest.providers.iter();
+        providers.position(|p| guid(p.guid) == words)
     }
 
     /// Which of a provider's templates the original finds at an offset, counted from its first.

@@ -81,8 +81,9 @@ fn main() -> ExitCode {
     let joins = &total.joins;
     println!(
         "joins in these, in {} blobs made for joins and in {LARGE_JOINED} large ones: {} blobs with \
-         events that have templates; {} keys, {} of them with templates, {} with several, {} where \
-         two providers have one GUID; {} offsets, {} of them of a template; {} lookups, {} of them \
+         events that have templates; {} keys, {} of them with templates, {} with several; where two \
+         providers have one GUID, {} with templates, {} of several providers, {} with a GUID of \
+         several, {} of a later provider alone; {} offsets, {} of them of a template; {} lookups, {} of them \
          8, {} 9, {} 10: no difference",
         count / PER_JOINED,
         joins.blobs,
@@ -90,6 +91,9 @@ fn main() -> ExitCode {
         joins.given,
         joins.several,
         joins.repeated,
+        joins.shared,
+        joins.twice,
+        joins.later,
         joins.offsets,
         joins.found,
         joins.by_code.iter().sum::<u64>(),
@@ -152,6 +156,7 @@ impl Totals {
         cases
             .map(|case| case.to_string())
             .chain(self.names.missing())
+            .chain(self.joins.missing())
             .chain(short.map(|(row, _)| format!("list {} too small", row.number)))
             .collect()
     }

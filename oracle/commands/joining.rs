@@ -34,8 +34,13 @@ pub struct Totals {
     pub keys: u64,
     pub given: u64,
     pub several: u64,
-    /// Those with templates in blobs where two providers have the same GUID.
+    /// Those with templates in blobs where two providers have the same GUID; those that get them
+    /// from several providers; those that get a GUID from several; and those that get none from
+    /// the first provider with their GUID.
     pub repeated: u64,
+    pub shared: u64,
+    pub twice: u64,
+    pub later: u64,
     /// Offsets that were asked for, and those of a template.
     pub offsets: u64,
     pub found: u64,
@@ -50,11 +55,47 @@ impl Totals {
         self.given += other.given;
         self.several += other.several;
         self.repeated += other.repeated;
+        self.shared += other.shared;
+        self.twice += other.twice;
+        self.later += other.later;
         self.offsets += other.offsets;
         self.found += other.found;
         for (mine, theirs) in self.by_code.iter_mut().zip(other.by_code) {
             *mine += theirs;
         }
+    }
+}
+
+impl Totals {
+    /// A key with so many templates, by what each provider alone gives.
+    fn add_repeated(
+        &mut self,
+        accepted: &Accepted,
+        apart: &[BTreeMap<Key, Vec<Words>>],
+        key: &Key,
+        given: usize,
+    ) {
+        let each: Vec<usize> = apart
+            .iter()
+            .filter_map(|index| index.get(key).map(Vec::len))
+            .collect();
+        let first = accepted.first_with(&key[..4]);
+        let from_first = first.is_some_and(|first| apart[first].contains_key(key));
+        self.repeated += 1;
+        self.shared += u64::from(each.len() > 1);
+        self.twice += u64::from(each.iter().sum::<usize>() > given);
+        self.later += u64::from(!from_first);
+    }
+
+    /// What never came.
+    pub fn missing(&self) -> Vec<String> {
+        let sorts = [
+            (self.shared, "a key with templates of several providers"),
+            (self.twice, "a key with a GUID from several providers"),
+            (self.later, "a key with templates of a later provider alone"),
+        ];
+        let none = sorts.into_iter().filter(|(times, _)| *times == 0);
+        none.map(|(_, sort)| sort.to_string()).collect()
     }
 }
 
@@ -96,7 +137,11 @@ impl Joiner {
     ) -> Result<(), String> {
         let accepted = Accepted::new(blob);
         let index = accepted.index();
-        let repeated = accepted.repeats_a_guid();
+        let apart = if accepted.repeats_a_guid() {
+            accepted.apart()
+        } else {
+            Vec::new()
+        };
         self.totals.blobs += u64::from(!index.is_empty());
         for key in keys(found, &index, rng) {
             let guids = index.get(&key).map_or(&[][..], Vec::as_slice);
@@ -104,7 +149,9 @@ impl Joiner {
             self.totals.keys += 1;
             self.totals.given += u64::from(!guids.is_empty());
             self.totals.several += u64::from(guids.len() > 1);
-            self.totals.repeated += u64::from(repeated && !guids.is_empty());
+            if !apart.is_empty() && !guids.is_empty() {
+                self.totals.add_repeated(&accepted, &apart, &key, guids.len());
+            }
         }
         self.by_offsets(lists, found, &accepted, rng)?;
         self.refusals(lists, found, rng)

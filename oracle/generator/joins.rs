@@ -14,7 +14,7 @@ struct Numbers {
     keys: usize,
 }
 
-/// A few providers with some events and templates each.
+/// A few providers with some events and templates each, most of them with the GUID of one before.
 pub fn blob(rng: &mut Rng) -> Vec<u8> {
     let scale = if rng.chance(3) { 40 } else { 4 };
     let mut draft = Draft::new(scale);
@@ -35,25 +35,32 @@ pub fn blob(rng: &mut Rng) -> Vec<u8> {
         draft.set(word, wevt);
         if i > 0 {
             let before = rng.pick(&draft.providers[..i]) - 16;
-            alike(&mut draft, rng, word - 16, before, 35);
+            alike(&mut draft, rng, word - 16, before, 80);
         }
     }
     draft.close();
     draft.bytes
 }
 
-/// One provider with as many events or templates as a list can have room for, or many of both.
+/// Providers with as many events or templates as a list can have room for, or with many of both; two
+/// or three share that number and have one GUID.
 pub fn large(rng: &mut Rng) -> Vec<u8> {
     let mut draft = Draft::new(1);
-    head(&mut draft, rng, 1);
+    let providers = rng.between(1, 4);
+    head(&mut draft, rng, providers);
     let (events, templates) = rng.pick(&[(300, 65_536), (300, 65_535), (2000, 2000), (65_536, 40)]);
     let numbers = Numbers {
-        events,
-        templates,
+        events: events / providers,
+        templates: templates / providers,
         keys: 16,
     };
-    let (wevt, _) = provider(&mut draft, rng, &numbers, Vec::new());
-    draft.set(draft.providers[0], wevt);
+    for i in 0..providers {
+        let (wevt, _) = provider(&mut draft, rng, &numbers, Vec::new());
+        let word = draft.providers[i];
+        draft.set(word, wevt);
+        let first = draft.providers[0] - 16;
+        draft.bytes.copy_within(first..first + 16, word - 16);
+    }
     draft.close();
     draft.bytes
 }
