@@ -1,11 +1,12 @@
 //! bench [WORDS]: times of the original and of the library on the same blocks, as tables. With
-//! words, only ordinary blocks with these in their name.
+//! words, only ordinary blocks with these in their name; `bench lookups`: lookups alone.
 //!
 //! `bench one WHO SHAPE BYTES` is for itself: one reading of a hostile block in a process of its
 //! own, so that its memory can be told.
 
 mod blobs;
 mod hostile;
+mod lookups;
 mod measure;
 mod writer;
 
@@ -22,7 +23,14 @@ fn main() -> ExitCode {
         [] => {
             let met = ordinary("");
             sharing();
+            lookups::ordinary();
+            lookups::hostile_lists();
             verdict(met)
+        }
+        ["lookups"] => {
+            lookups::ordinary();
+            lookups::hostile_lists();
+            ExitCode::SUCCESS
         }
         ["one", who, shape, bytes] => {
             one(
@@ -34,7 +42,7 @@ fn main() -> ExitCode {
         }
         [words] => verdict(ordinary(words)),
         _ => {
-            eprintln!("usage: bench/run [WORDS]");
+            eprintln!("usage: bench/run [WORDS | lookups]");
             ExitCode::from(2)
         }
     }
@@ -55,7 +63,7 @@ fn ordinary(words: &str) -> Vec<&'static str> {
             assert_eq!(lent.library(&blob), 0, "the library refuses {name}");
             assert_eq!(measure::needs(&blob), 0, "the needs of {name} are refused");
             assert!(measure::same_items(&blob), "other items in {name}");
-            let [original, library, needs] = measure::medians(&blob, &mut lent);
+            let [original, library, needs] = measure::readings(&blob, &mut lent);
             let (length, ratio) = (blob.len() as f64, original / library);
             println!(
                 "| {name} | {} | {original:.0} | {library:.0} | {ratio:.1} | {:.3} | {:.3} | {needs:.0} |",

@@ -55,19 +55,9 @@ pub fn needs(blob: &[u8]) -> u32 {
 }
 
 /// The medians of many readings in nanoseconds: by the original, by the library, and by the library
-/// that is only asked what is needed. They take turns, so that whatever else the machine does hits
-/// all of them.
-pub fn medians(blob: &[u8], lent: &mut Lent) -> [f64; 3] {
-    let timed = |repeats: u32, read: &mut dyn FnMut()| {
-        let start = Instant::now();
-        for _ in 0..repeats {
-            read();
-        }
-        start.elapsed() / repeats
-    };
-    // A short reading is repeated, so that the clock doesn't matter.
-    let repeats = |once: Duration| (2_000_000 / once.as_nanos().max(1)).clamp(1, 50_000) as u32;
-    let readers: [&mut dyn FnMut(); 3] = [
+/// that is only asked what is needed.
+pub fn readings(blob: &[u8], lent: &mut Lent) -> [f64; 3] {
+    medians([
         &mut || {
             original(blob);
         },
@@ -77,12 +67,26 @@ pub fn medians(blob: &[u8], lent: &mut Lent) -> [f64; 3] {
         &mut || {
             needs(blob);
         },
-    ];
+    ])
+}
+
+/// The medians of many runs of each, in nanoseconds. They take turns, so that whatever else the
+/// machine does hits all of them.
+pub fn medians<const N: usize>(runs: [&mut dyn FnMut(); N]) -> [f64; N] {
+    let timed = |repeats: u32, run: &mut dyn FnMut()| {
+        let start = Instant::now();
+        for _ in 0..repeats {
+            run();
+        }
+        start.elapsed() / repeats
+    };
+    // A short run is repeated, so that the clock doesn't matter.
+    let repeats = |once: Duration| (2_000_000 / once.as_nanos().max(1)).clamp(1, 50_000) as u32;
     // The first of each isn't counted: it brings the bytes and the words into the caches.
-    let mut readers = readers.map(|read| {
-        let turns = repeats(timed(1, read));
-        timed(turns, read);
-        (repeats(timed(turns, read)), read, Vec::new())
+    let mut runs = runs.map(|run| {
+        let turns = repeats(timed(1, run));
+        timed(turns, run);
+        (repeats(timed(turns, run)), run, Vec::new())
     });
     let start = Instant::now();
     for turn in 0..101 {
@@ -90,12 +94,12 @@ pub fn medians(blob: &[u8], lent: &mut Lent) -> [f64; 3] {
             break;
         }
         // Who begins changes, so that what comes at regular times doesn't always hit the same one.
-        for place in 0..3 {
-            let (repeats, read, times) = &mut readers[(turn + place) % 3];
-            times.push(timed(*repeats, read));
+        for place in 0..N {
+            let (repeats, run, times) = &mut runs[(turn + place) % N];
+            times.push(timed(*repeats, run));
         }
     }
-    readers.map(|(_, _, times)| median(times))
+    runs.map(|(_, _, times)| median(times))
 }
 
 fn median(mut times: Vec<Duration>) -> f64 {

@@ -1,0 +1,227 @@
+//! Lookups by key: in the lists of ordinary readings, and in lists that are hostile.
+
+use std::hint::black_box;
+use std::time::Instant;
+
+use ducatfeather::{Capacities, List, needs, raw};
+use original::wevt_templates::manifest::{CrimManifest, EventKey};
+
+use crate::measure;
+use crate::writer::Writer;
+
+/// The words of a GUID; each provider has it.
+const GUID: [u32; 4] = [1, 2, 3, 4];
+
+/// No template stands there.
+const NOWHERE: u32 = 1;
+
+/// What a lookup is lent: the words of a reading that had just the room it needed.
+struct Lists {
+    words: Vec<u32>,
+    counts: Capacities,
+    guids: Vec<u32>,
+}
+
+impl Lists {
+    fn read(block: &[u8]) -> Lists {
+        let counts = needs(block).expect("a block that is accepted");
+        let mut words = vec![0; counts.words().expect("words that can be lent")];
+        let mut answer = [0; raw::NUMBERS];
+        let code = raw::ducat_read(block, &mut words, counts.in_order(), &mut answer);
+        assert_eq!(code, 0, "a block that is accepted");
+        Lists {
+            words,
+            counts,
+            guids: vec![0; 4 * raw::GUID_WORDS],
+        }
+    }
+
+    /// How many GUIDs a key gives.
+    fn look_up(&mut self, key: &[u32; raw::KEY_WORDS]) -> u64 {
+        let mut answer = [0; raw::GUIDS_NUMBERS];
+        let code = raw::ducat_templates_for(
+            black_box(&self.words),
+            self.counts.in_order(),
+            self.counts.in_order(),
+            black_box(key),
+            &mut self.guids,
+            &mut answer,
+        );
+        assert_eq!(code, 0, "lists that fit together");
+        black_box(&self.guids);
+        answer[4]
+    }
+
+    /// Gives every EVNT and every TTBL the whole of its list, as no reading does.
+    fn share(&mut self) {
+        let before = List::all().take_while(|&list| list != List::Tables);
+        let start = before.map(|list| list.words() * self.counts.of(list) as usize);
+        let start: usize = start.sum();
+        let length = List::Tables.words();
+        let [events, templates] = [List::Events, List::Templates].map(|list| self.counts.of(list));
+        for table in 0..self.counts.of(List::Tables) as usize {
+            let table = &mut self.words[start + length * table..][..length];
+            table[5] = 0;
+            table[6] = if table[1] == 2 { events } else { templates };
+        }
+    }
+}
+
+/// The key of the events of a number, whose provider has a GUID.
+fn key(guid: [u32; 4], event: u32) -> [u32; raw::KEY_WORDS] {
+    let [a, b, c, d] = guid;
+    [a, b, c, d, event, 0, 0, 2, 0, 1, 0, 0x8000]
+}
+
+/// Providers of one GUID with so many events and templates each. The keys of a provider's events
+/// differ; the last names the last template, the others those before it.
+fn block(providers: u32, events: u32, templates: u32) -> Vec<u8> {
+    written(providers, |w| {
+        let [evnt, ttbl] = [w.events(events), w.templates(templates, 0)];
+        for back in 0..events {
+            let record = evnt + 16 + 48 * (events - 1 - back);
+            w.set(
+                record + 20,
+                ttbl + 12 + 40 * (templates - 1 - back % templates),
+            );
+        }
+        [evnt, ttbl]
+    })
+}
+
+/// Providers of one GUID with so many events and templates each, all events with one key and with
+/// the offset of no template.
+fn hostile(providers: u32, events: u32, templates: u32) -> Vec<u8> {
+    written(providers, |w| {
+        let [evnt, ttbl] = [w.events(events), w.templates(templates, 0)];
+        for event in 0..events {
+            let record = evnt + 16 + 48 * event;
+            w.set(record, 0);
+            w.set(record + 20, NOWHERE);
+        }
+        [evnt, ttbl]
+    })
+}
+
+/// Providers of one GUID that all lead to one WEVT, with these elements.
+fn written<const N: usize>(providers: u32, elements: impl Fn(&mut Writer) -> [u32; N]) -> Vec<u8> {
+    let mut w = Writer::new(providers);
+    let elements = elements(&mut w);
+    let wevt = w.wevt(&elements, 0);
+    for provider in 0..providers {
+        w.set(16 + 20 * provider, GUID[0]);
+        w.provider(provider, wevt);
+    }
+    w.close()
+}
+
+/// One lookup, by how many providers have the GUID and how many events and templates there are.
+pub fn ordinary() {
+    println!(
+        "| Providers | Events | Templates | Unknown GUID, ns | No such event, ns | A template, ns | Original's index, ns | Found in it, ns |"
+    );
+    println!("|--:|--:|--:|--:|--:|--:|--:|--:|");
+    for (providers, events, templates) in [
+        (1, 10, 10),
+        (1, 100, 100),
+        (1, 1_000, 1_000),
+        (2, 1_000, 1_000),
+        (8, 1_000, 1_000),
+        (1, 10_000, 10_000),
+        (8, 10_000, 10_000),
+        (1, 65_536, 40),
+        (1, 40, 65_536),
+    ] {
+        let block = block(providers, events / providers, templates / providers);
+        let last = events / providers - 1;
+        let [mut unknown, mut none, mut one] = [(); 3].map(|()| Lists::read(&block));
+        let asked = [key([9; 4], last), key(GUID, u32::MAX), key(GUID, last)];
+        assert_eq!(unknown.look_up(&asked[0]), 0);
+        assert_eq!(none.look_up(&asked[1]), 0);
+        assert_eq!(one.look_up(&asked[2]), 1);
+
+        let manifest = CrimManifest::parse(&block).expect("a block that is accepted");
+        let index = manifest.build_index();
+        let guid = manifest.providers[0].guid.to_string();
+        let sought = || EventKey {
+            provider_guid: black_box(&guid).clone(),
+            event_id: last as u16,
+            version: 0,
+            channel: 0,
+            level: 2,
+            opcode: 0,
+            task: 1,
+            keywords: 0x8000 << 32,
+        };
+        assert_eq!(index.event_to_template_guids[&sought()].len(), 1);
+        let times = measure::medians([
+            &mut || {
+                unknown.look_up(&asked[0]);
+            },
+            &mut || {
+                none.look_up(&asked[1]);
+            },
+            &mut || {
+                one.look_up(&asked[2]);
+            },
+            &mut || {
+                black_box(&manifest.build_index());
+            },
+            &mut || {
+                black_box(index.event_to_template_guids.get(&sought()));
+            },
+        ]);
+        print!("| {providers} | {events} | {templates} |");
+        for time in times {
+            print!(" {time:.0} |");
+        }
+        println!();
+    }
+    println!();
+}
+
+/// Lists that make a lookup long.
+pub fn hostile_lists() {
+    println!("| Hostile lists | Product | Library, ms | ns each |");
+    println!("|---|--:|--:|--:|");
+    for each in [2048_u32, 16_384] {
+        let mut lists = Lists::read(&hostile(1, each, each));
+        row("events × templates", &[each, each], &mut lists);
+    }
+    for providers in [4096_u32, 32_768] {
+        let levels = written(providers, |w| [w.levels(std::iter::empty())]);
+        let mut lists = Lists::read(&levels);
+        row("providers × tables", &[providers; 2], &mut lists);
+    }
+    for (providers, each) in [(16_u32, 64), (64, 64)] {
+        let mut lists = Lists::read(&hostile(providers, each, each));
+        lists.share();
+        let all = providers * each;
+        row(
+            "providers × events × templates",
+            &[providers, all, all],
+            &mut lists,
+        );
+    }
+    println!();
+}
+
+/// The least time of half a second's lookups, or of one that takes longer.
+fn row(name: &str, factors: &[u32], lists: &mut Lists) {
+    let key = key(GUID, 0);
+    let mut least = f64::INFINITY;
+    let start = Instant::now();
+    while least.is_infinite() || start.elapsed().as_millis() < 500 {
+        let began = Instant::now();
+        assert_eq!(lists.look_up(&key), 0);
+        least = least.min(began.elapsed().as_nanos() as f64);
+    }
+    let product: f64 = factors.iter().copied().map(f64::from).product();
+    let factors: Vec<String> = factors.iter().map(u32::to_string).collect();
+    println!(
+        "| {name} | {} | {:.3} | {:.2} |",
+        factors.join(" × "),
+        least / 1e6,
+        least / product
+    );
+}
