@@ -5,11 +5,11 @@ use mathlib.Core.Path.{_≡_, refl, ap, ap₂, sym, _∙_}
 use mathlib.Core.Bool.{Bool, true, false, _&&_}
 use mathlib.Core.List.{List, [], _∷_, _++_, map, map-append}
 use native.Mathlib.Omega.{arith}
-use lib.ListN.{length, length-map}
+use lib.ListN.{length}
 use borrow.Author.Tests.{le-leb, lt-leb}
 use Rattle.blob.specs.Reading.{Outcome, done, refused}
 use Rattle.blob.specs.Asks.{inside-append}
-use Rattle.blob.specs.Laid.{flat}
+use Rattle.blob.specs.Laid.{laid, flat}
 use Rattle.blob.specs.Places.{Each}
 use Rattle.blob.specs.declared.Refusal.{Refusal}
 use Rattle.blob.specs.declared.Verdict.the-variants as verdicts
@@ -28,8 +28,7 @@ use Rattle.lists.specs.Fit.{refused-as, inside, whole-few, whole-entries}
 use Rattle.lists.specs.Found.{entries, few, runOf, behind, has, found, fitTogether, Fit, owned}
 use Rattle.lists.specs.Search.{and-true, positions-none, run-positions}
 use Rattle.lists.specs.Tables.{owned-entries}
-use Rattle.lookup.specs.declared.Walk.{Walk}
-use Rattle.lookup.specs.Given.{Part, guidOf, firsts, Stands, ahead, begun, cameTo, numbersFrom, numbersOfAll, newOf, givenBy, guidsBy, roomFor}
+use Rattle.lookup.specs.Given.{Part, guidOf, firsts, unset, Stands, cameTo, numbersFrom, numbersOfAll, newOf, guidsFrom, roomFor}
 use Rattle.lookup.specs.Once.{keyed-guids, numbers-below, given-once}
 
 and-false : (b : Bool) → (b && false) ≡ false
@@ -53,6 +52,24 @@ module _ (words capacities counts : List ℕ) (key : Key) (lent : List ℕ) wher
   unfolding byKey
   key-room h f t = rw (f .0, le-leb _ _ h, f .1, t)
 
+-- Where no event is left, the next provider decides: its events come next; where there is none, it is over.
+module _ (words capacities counts guid key : List ℕ) (providers : Run) where
+  abbrev searched : Found
+  searched = found (position (has 0 guid) (providers .first) (entries (width PROVIDERS) providers words))
+
+  abbrev left : List Bool → List ℕ
+  left marks = firsts words (runOf capacities counts (place TEMPLATES)) marks (numbersOfAll words capacities counts guid key providers)
+
+  pub come-to : (marks : List Bool) (p : ℕ) → searched ≡ founds.Number p → left marks ≡ newOf words capacities counts guid key marks (cameTo words capacities counts providers p)
+  unfolding flat
+  come-to marks p e =
+      ap (λ (ps : List ℕ). firsts words (runOf capacities counts (place TEMPLATES)) marks (flat (λ n. numbersFrom words capacities counts guid key n) ps))
+      (run-positions (has 0 guid) words (width PROVIDERS) providers p e .0)
+
+  pub come-to-none : (marks : List Bool) → searched ≡ founds.Nothing → left marks ≡ []
+  unfolding flat firsts
+  come-to-none marks e = rw (positions-none (has 0 guid) (providers .first) (entries (width PROVIDERS) providers words) e)
+
 -- over lists that fit together: a provider's events and templates stand in the words
 module _ (words capacities counts : List ℕ) (f : Fit words capacities counts) (t : tablesFit counts (entriesOf words capacities counts TABLES) ≡ true) where
   abbrev list : Run
@@ -69,9 +86,15 @@ module _ (words capacities counts : List ℕ) (f : Fit words capacities counts) 
       let o = owned-entries words capacities counts TEMPLATES TTBL refl p (entriesOf words capacities counts TABLES) t in
       (inside words capacities counts f (place TEMPLATES), o .begins, o .within)
 
-  -- the lookup stands before all providers
-  pub begins : Stands words list (begun capacities counts)
-  begins = ((omega arith, omega arith), (inside words capacities counts f (place TEMPLATES), refl, omega arith), whole-few words capacities counts f (place PROVIDERS))
+  -- where the lookup stands, at a provider that was found
+  pub came-to : (guid : List ℕ) (providers : Run) → few (width PROVIDERS) providers words → (p : ℕ)
+      → found (position (has 0 guid) (providers .first) (entries (width PROVIDERS) providers words)) ≡ founds.Number p
+      → (p < providers .first + providers .count)
+      × Stands words list (cameTo words capacities counts providers p)
+      × (behind providers p .count < providers .count)
+  came-to guid providers s p e =
+      let r = run-positions (has 0 guid) words (width PROVIDERS) providers p e in
+      (omega (arith, r .2), (events-in p, templates-in p, (omega (arith, r .1, r .2, s), omega (arith, r .1, r .2, s))), omega (arith, r .1, r .2))
 
   -- what the events of some providers give is in list 9, and the GUIDs are the definition's
   module _ (key : Key) where
@@ -97,45 +120,34 @@ module _ (words capacities counts : List ℕ) (f : Fit words capacities counts) 
         inside-append (list .count) (from p) (flat from ps)
         (numbers-below words list (owned words capacities counts p TTBL) (templates-in p) (keyWords key) (entries (width EVENTS) (owned words capacities counts p EVNT) words)) (below-all ps)
 
-    pub key-given : guidsOf words capacities counts key ≡ guidsBy words capacities counts (guidWords (key .guid)) (keyWords key)
-    unfolding guidsOf entriesFrom flat
-    key-given =
+    all-given : guidsOf words capacities counts key
+        ≡ map (guidOf words list) (firsts words list unset (numbersOfAll words capacities counts (guidWords (key .guid)) (keyWords key) (runOf capacities counts (place PROVIDERS))))
+    unfolding guidsOf
+    all-given =
         let ps = positions (has 0 (guidWords (key .guid))) 0 (entries (width PROVIDERS) (runOf capacities counts (place PROVIDERS)) words) in
         ap (λ (es : List Entry). once [] (flat (λ p. guidsOfProvider words capacities counts key p) (positions (has 0 (guidWords (key .guid))) 0 es))) (sym (whole-entries words capacities counts (place PROVIDERS)))
         ∙ ap (once []) (guids-from-all ps)
         ∙ sym (given-once words list (inside words capacities counts f (place TEMPLATES)) (flat from ps) (below-all ps))
 
-    pub key-counted : length (guidsOf words capacities counts key) ≡ length (givenBy words capacities counts (guidWords (key .guid)) (keyWords key))
-    key-counted = ap length key-given ∙ length-map (givenBy words capacities counts (guidWords (key .guid)) (keyWords key)) (guidOf words list)
+    -- by the first provider that was found, or none
+    abbrev first-found : Found
+    first-found = found (position (has 0 (guidWords (key .guid))) 0 (entries (width PROVIDERS) (runOf capacities counts (place PROVIDERS)) words))
 
--- Where no event is left, the next provider decides: its events come next; where there is none, it is over.
-module _ (words capacities counts guid key : List ℕ) (w : Walk) where
-  abbrev searched : Found
-  searched = found (position (has 0 guid) (w .providers .first) (entries (width PROVIDERS) (w .providers) words))
+    pub key-found : (p : ℕ) → first-found ≡ founds.Number p
+        → guidsOf words capacities counts key ≡ guidsFrom words capacities counts (guidWords (key .guid)) (keyWords key) (cameTo words capacities counts (runOf capacities counts (place PROVIDERS)) p)
+    key-found p e = all-given ∙ ap (map (guidOf words list)) (come-to words capacities counts (guidWords (key .guid)) (keyWords key) (runOf capacities counts (place PROVIDERS)) unset p e)
 
-  abbrev left : List Bool → List ℕ
-  left marks = firsts words (runOf capacities counts (place TEMPLATES)) marks (numbersOfAll words capacities counts guid key (w .providers))
+    pub key-none : first-found ≡ founds.Nothing → guidsOf words capacities counts key ≡ []
+    key-none e = all-given ∙ ap (map (guidOf words list)) (come-to-none words capacities counts (guidWords (key .guid)) (keyWords key) (runOf capacities counts (place PROVIDERS)) unset e)
 
-  pub come-to : (marks : List Bool) (p : ℕ) → searched ≡ founds.Number p → left marks ≡ newOf words capacities counts guid key marks (cameTo words capacities counts (w .providers) p)
-  unfolding flat
-  come-to marks p e =
-      ap (λ (ps : List ℕ). firsts words (runOf capacities counts (place TEMPLATES)) marks (flat (λ n. numbersFrom words capacities counts guid key n) ps))
-      (run-positions (has 0 guid) words (width PROVIDERS) (w .providers) p e .0)
-
-  pub come-to-none : (marks : List Bool) → searched ≡ founds.Nothing → left marks ≡ []
-  unfolding flat firsts
-  come-to-none marks e = rw (positions-none (has 0 guid) (w .providers .first) (entries (width PROVIDERS) (w .providers) words) e)
-
-  pub came-to : Fit words capacities counts → tablesFit counts (entriesOf words capacities counts TABLES) ≡ true → Stands words (runOf capacities counts (place TEMPLATES)) w
-      → (p : ℕ) → searched ≡ founds.Number p
-      → (p < w .providers .first + w .providers .count)
-      × Stands words (runOf capacities counts (place TEMPLATES)) (cameTo words capacities counts (w .providers) p)
-      × (ahead (cameTo words capacities counts (w .providers) p) ≤ ahead w)
-      × (behind (w .providers) p .count < w .providers .count)
-  came-to f t s p e =
-      let r = run-positions (has 0 guid) words (width PROVIDERS) (w .providers) p e in
-      let v = events-in words capacities counts f t p in
-      (omega (arith, r .2), (v, templates-in words capacities counts f t p, (omega (arith, r .1, r .2, s .2), omega (arith, r .1, r .2, s .2))), omega (arith, r .1, r .2, v .1), omega (arith, r .1, r .2))
+-- where nothing is given, there is room
+pub given-none : (lent : List ℕ) (gs : List Entry) → length gs ≤ 0 → (guids.Given 0 ≡ guidsFound (roomFor lent gs)) × (lent ≡ guidsHeld lent (roomFor lent gs))
+unfolding flat laid
+given-none lent [] n =
+    let h : 0 ≤ length lent / GUID = omega arith in
+    let x : done [] ≡ roomFor lent [] = rw (le-leb _ _ h) in
+    (ap guidsFound x, ap (guidsHeld lent) x)
+given-none lent (g ∷ gs) n = absurd (omega arith)
 
 -- a refusal keeps the lent list
 pub refusal-keeps : (lent : List ℕ) (o : Outcome (List Entry)) (q r : Refusal) → q ≡ r → o ≡ refused r → (guids.Refused q ≡ guidsFound o) × (lent ≡ guidsHeld lent o)

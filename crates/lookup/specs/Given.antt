@@ -109,11 +109,7 @@ Stands words list w = few (width EVENTS) (w .events) words × Part list (w .temp
 abbrev pub ahead : Walk → ℕ
 ahead w = 65537 * w .providers .count + w .events .count
 
--- before all providers, and at one of them
-abbrev pub begun : List ℕ → List ℕ → Walk
-begun capacities counts =
-    record { events = record { start = 0; first = 0; count = 0 }; templates = runOf capacities counts (place TEMPLATES); providers = runOf capacities counts (place PROVIDERS) }
-
+-- at a provider
 abbrev pub cameTo : List ℕ → List ℕ → List ℕ → Run → ℕ → Walk
 cameTo words capacities counts providers p =
     record { events = owned words capacities counts p EVNT; templates = owned words capacities counts p TTBL; providers = lists.behind providers p }
@@ -134,12 +130,9 @@ module _ (words capacities counts guid key : List ℕ) where
   abbrev pub newOf : List Bool → Walk → List ℕ
   newOf marks w = firsts words (runOf capacities counts (place TEMPLATES)) marks (numbersLeft w)
 
-  -- the templates whose GUIDs are given, each once; and the GUIDs
-  abbrev pub givenBy : List ℕ
-  givenBy = newOf unset (begun capacities counts)
-
-  abbrev pub guidsBy : List Entry
-  guidsBy = map (guidOf words (runOf capacities counts (place TEMPLATES))) givenBy
+  -- the GUIDs that are given, where none was before, each once
+  abbrev pub guidsFrom : Walk → List Entry
+  guidsFrom w = map (guidOf words (runOf capacities counts (place TEMPLATES))) (newOf unset w)
 
   -- what a step tells of those that are left, with the marks that are then set
   abbrev pub stepped : List Bool → Step → List ℕ

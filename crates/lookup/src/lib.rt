@@ -177,20 +177,24 @@ fn next_new(
     Next::Over
 }
 
-// Before all providers.
-fn begin(capacities: [u32; AREAS], counts: [u32; AREAS]) -> Walk
-    ensures { λ r. ⌜ r ≡ spec.begun capacities counts ⌝ }
+// At a provider, by its number; behind it come those of some providers that are behind it.
+fn come_to(
+    words: &[u32],
+    capacities: [u32; AREAS],
+    counts: [u32; AREAS],
+    providers: Run,
+    p: u32,
+) -> Walk
+    requires { ⌜ lists.Fit (now words) capacities counts × (p < providers .first + providers .count) × (providers .first + providers .count ≤ 65536) ⌝ }
+    ensures { λ r. ⌜ r ≡ spec.cameTo (now (words .entry)) capacities counts providers p ⌝ }
 {
-    let templates = lists::run_of(capacities, counts, row::TEMPLATES);
-    let providers = lists::run_of(capacities, counts, row::PROVIDERS);
+    let events = lists::owned(words, capacities, counts, p, kind::EVNT);
+    let templates = lists::owned(words, capacities, counts, p, kind::TTBL);
+    let behind = lists::behind(providers, p);
     Walk {
-        events: Run {
-            start: 0,
-            first: 0,
-            count: 0,
-        },
+        events,
         templates,
-        providers,
+        providers: behind,
     }
 }
 
@@ -229,71 +233,76 @@ fn advance(
         let Found::Number(p) = lists::find(words, providers, row::PROVIDERS, 0, guid) else {
             return Step::Over;
         };
-        events = lists::owned(words, capacities, counts, p, kind::EVNT);
-        templates = lists::owned(words, capacities, counts, p, kind::TTBL);
-        providers = lists::behind(providers, p);
+        let next = come_to(words, capacities, counts, providers, p);
+        events = next.events;
+        templates = next.templates;
+        providers = next.providers;
     }
 }
 
-// How many GUIDs the events give, each once; one more than the most that are asked for, where there are more.
+// How many GUIDs the events that are left give, each once; one more than the most that are asked for, where there are more.
 fn count(
     words: &[u32],
     capacities: [u32; AREAS],
     counts: [u32; AREAS],
+    walk: Walk,
     guid: &[u32],
     key: &[u32],
     most: u32,
 ) -> u32
     requires { ⌜ lists.Fit (now words) capacities counts × (right.tablesFit counts (right.entriesOf (now words) capacities counts area.TABLES) ≡ true) ⌝ }
     requires { ⌜ (length (now guid) ≡ entry.GUID) × (length (now key) ≡ entry.KEY) × (most ≤ 65536) ⌝ }
-    ensures { λ r. ⌜ r ≡ min (length (spec.givenBy (now (words .entry)) capacities counts (now (guid .entry)) (now (key .entry)))) (most + 1) ⌝ }
+    requires { ⌜ spec.Stands (now words) (lists.runOf capacities counts (area.place area.TEMPLATES)) walk ⌝ }
+    ensures { λ r. ⌜ r ≡ min (length (spec.newOf (now (words .entry)) capacities counts (now (guid .entry)) (now (key .entry)) spec.unset walk)) (most + 1) ⌝ }
 {
     let mut marks = [false; 65536];
-    let mut walk = begin(capacities, counts);
+    let mut at = walk;
     let mut n: u32 = 0;
     while n <= most {
         let Step::Template(_, behind) = advance(
             words,
             capacities,
             counts,
-            walk,
+            at,
             guid,
             key,
             &mut marks,
         ) else {
             return n;
         };
-        walk = behind;
+        at = behind;
         n += 1;
     }
     n
 }
 
-// Stores the GUIDs that the events give, each once.
+// Stores the GUIDs that they give, each once.
 fn fill(
     words: &[u32],
     capacities: [u32; AREAS],
     counts: [u32; AREAS],
+    walk: Walk,
     guid: &[u32],
     key: &[u32],
     guids: &mut [u32],
 )
     requires { ⌜ lists.Fit (now words) capacities counts × (right.tablesFit counts (right.entriesOf (now words) capacities counts area.TABLES) ≡ true) ⌝ }
     requires { ⌜ (length (now guid) ≡ entry.GUID) × (length (now key) ≡ entry.KEY) ⌝ }
-    requires { ⌜ entry.GUID * length (spec.givenBy (now words) capacities counts (now guid) (now key)) ≤ length (now guids) ⌝ }
+    requires { ⌜ spec.Stands (now words) (lists.runOf capacities counts (area.place area.TEMPLATES)) walk ⌝ }
+    requires { ⌜ entry.GUID * length (spec.newOf (now words) capacities counts (now guid) (now key) spec.unset walk) ≤ length (now guids) ⌝ }
     ensures { λ _. ⌜ now (guids .exit) ≡ laid (now (guids .entry)) 0 (flat (spec.guidOf (now (words .entry)) (lists.runOf capacities counts (area.place area.TEMPLATES)))
-        (spec.givenBy (now (words .entry)) capacities counts (now (guid .entry)) (now (key .entry)))) ⌝ }
+        (spec.newOf (now (words .entry)) capacities counts (now (guid .entry)) (now (key .entry)) spec.unset walk)) ⌝ }
 {
     let list = lists::run_of(capacities, counts, row::TEMPLATES);
     let mut marks = [false; 65536];
-    let mut walk = begin(capacities, counts);
+    let mut at = walk;
     let mut to = 0;
     loop {
         let Step::Template(n, behind) = advance(
             words,
             capacities,
             counts,
-            walk,
+            at,
             guid,
             key,
             &mut marks,
@@ -301,26 +310,28 @@ fn fill(
             return;
         };
         words::put(guids, to, guid_of(words, list, n));
-        walk = behind;
+        at = behind;
         to += GUID;
     }
 }
 
-// Stores the GUIDs that the events with a key give, each once, and tells how many; 9, and nothing is stored, where the lent list is too
-// short.
+// Stores the GUIDs that the events with a key give, from where the lookup stands, each once, and tells how many; 9, and nothing is stored,
+// where the lent list is too short.
 fn give(
     words: &[u32],
     capacities: [u32; AREAS],
     counts: [u32; AREAS],
+    walk: Walk,
+    guid: &[u32],
     k: Key,
     guids: &mut [u32],
 ) -> GuidsFound
     requires { ⌜ lists.Fit (now words) capacities counts × (right.tablesFit counts (right.entriesOf (now words) capacities counts area.TABLES) ≡ true) ⌝ }
-    requires { ⌜ length (now guids) / entry.GUID ≤ 65536 ⌝ }
-    ensures { λ r. ⌜ r ≡ right.guidsFound (spec.roomFor (now (guids .entry)) (right.guidsOf (now (words .entry)) capacities counts k)) ⌝ }
-    ensures { λ _. ⌜ now (guids .exit) ≡ right.guidsHeld (now (guids .entry)) (spec.roomFor (now (guids .entry)) (right.guidsOf (now (words .entry)) capacities counts k)) ⌝ }
+    requires { ⌜ (length (now guid) ≡ entry.GUID) × (length (now guids) / entry.GUID ≤ 65536) ⌝ }
+    requires { ⌜ spec.Stands (now words) (lists.runOf capacities counts (area.place area.TEMPLATES)) walk ⌝ }
+    ensures { λ r. ⌜ r ≡ right.guidsFound (spec.roomFor (now (guids .entry)) (spec.guidsFrom (now (words .entry)) capacities counts (now (guid .entry)) (right.keyWords k) walk)) ⌝ }
+    ensures { λ _. ⌜ now (guids .exit) ≡ right.guidsHeld (now (guids .entry)) (spec.roomFor (now (guids .entry)) (spec.guidsFrom (now (words .entry)) capacities counts (now (guid .entry)) (right.keyWords k) walk)) ⌝ }
 {
-    let guid = [k.guid.a, k.guid.b, k.guid.c, k.guid.d];
     let fields = [
         k.identifier,
         k.version,
@@ -332,7 +343,7 @@ fn give(
         k.high,
     ];
     let capacity = (guids.len() / GUID) as u32;
-    let n = count(words, capacities, counts, &guid, &fields, capacity);
+    let n = count(words, capacities, counts, walk, guid, &fields, capacity);
     if capacity < n {
         return GuidsFound::Refused(Refusal {
             code: 9,
@@ -342,7 +353,10 @@ fn give(
             second: capacity as u64,
         });
     }
-    fill(words, capacities, counts, &guid, &fields, guids);
+    if n == 0 {
+        return GuidsFound::Given(0);
+    }
+    fill(words, capacities, counts, walk, guid, &fields, guids);
     GuidsFound::Given(n)
 }
 
@@ -362,5 +376,12 @@ pub fn templates_for(
     if let Verdict::Refused(r) = lists::fit_together(words, capacities, counts) {
         return GuidsFound::Refused(r);
     }
-    give(words, capacities, counts, key, guids)
+    let g = key.guid;
+    let guid = [g.a, g.b, g.c, g.d];
+    let providers = lists::run_of(capacities, counts, row::PROVIDERS);
+    let Found::Number(p) = lists::find(words, providers, row::PROVIDERS, 0, &guid) else {
+        return GuidsFound::Given(0);
+    };
+    let walk = come_to(words, capacities, counts, providers, p);
+    give(words, capacities, counts, walk, &guid, key, guids)
 }

@@ -1,13 +1,12 @@
 -- The invariant: what is left decides.
 use Prim.{tt}
 use Prim.Native.Nat.{_≤_}
-use mathlib.Core.Path.{_≡_, refl, ap, ap₂, sym, _∙_, subst}
+use mathlib.Core.Path.{_≡_, refl, ap, sym, _∙_, subst}
 use Rattle.format.specs.Area.{TEMPLATES, place}
-use Rattle.format.specs.Table.{EVNT}
-use Rattle.lists.specs.Found.{runOf, owned}
+use Rattle.lists.specs.Found.{runOf}
 use Rattle.lists.specs.declared.Run.{Run}
 use Rattle.lookup.specs.declared.Walk.{Walk}
-use Rattle.lookup.specs.Given.{Part, behind, Stands, ahead, cameTo, newOf, tells-over, tells-template}
+use Rattle.lookup.specs.Given.{Part, behind, Stands, ahead, newOf, tells-over, tells-template}
 use Rattle.lookup.specs.ByKey.{come-to, come-to-none, came-to}
 use borrow.Author.Needs.{needs}
 use native.Mathlib.Omega.{arith}
@@ -79,22 +78,11 @@ returns-2 c =
     let l = x .before .before in
     let r = l .before .before .before .before in
     let a = r .before .before .before .before .args in
-    let w = at (l .loop .events) (l .loop .templates) (l .loop .providers) in
-    (l .loop .inv .2 ∙ tells-over (a .words .now) (r .run-of .result) (l .loop .templates) (a .key .now) (l .loop .marks) (l .loop .events) _ _ (x .next-new .ensures .0) _ (r .run-of .ensures) _ (e .enum-told .given .1) ∙ come-to-none (a .words .now) (a .capacities) (a .counts) (a .guid .now) (a .key .now) w _ (sym (f .find .ensures) ∙ c .enum-told2 .given .1), tt)
+    (l .loop .inv .2 ∙ tells-over (a .words .now) (r .run-of .result) (l .loop .templates) (a .key .now) (l .loop .marks) (l .loop .events) _ _ (x .next-new .ensures .0) _ (r .run-of .ensures) _ (e .enum-told .given .1) ∙ come-to-none (a .words .now) (a .capacities) (a .counts) (a .guid .now) (a .key .now) (l .loop .providers) _ (sym (f .find .ensures) ∙ c .enum-told2 .given .1), tt)
 
-owned-requires : tie.Need-owned-requires Inv-loop μ-loop
-owned-requires c κs =
-    let o = c .before .before .before .before .before .before .before .before .before .before .before .before .before .before .before .before in
-    (o .pre .0 .0, omega arith, omega arith)
-
-owned-requires-2 : tie.Need-owned-requires-2 Inv-loop μ-loop
-owned-requires-2 c κs =
-    let o = c .before .before .before .before .before .before .before .before .before .before .before .before .before .before .before .before .before in
-    (o .pre .0 .0, omega arith, omega arith)
-
-behind-requires : tie.Need-behind-requires Inv-loop μ-loop
-behind-requires c κs =
-    let p = c .before .before .before in
+come-to-requires : tie.Need-come-to-requires Inv-loop μ-loop
+come-to-requires c κs =
+    let p = c .before in
     let f = p .before .before in
     let e = f .before in
     let x = e .before .before in
@@ -102,14 +90,13 @@ behind-requires c κs =
     let r = l .before .before .before .before in
     let o = r .before .before .before .before in
     let a = o .args in
-    let w = at (l .loop .events) (l .loop .templates) (l .loop .providers) in
     let g = sym (f .find .ensures) ∙ p .p .given .1 in
-    let h = came-to (a .words .now) (a .capacities) (a .counts) (a .guid .now) (a .key .now) w (o .pre .0 .0) (o .pre .0 .1) (l .loop .inv .0) _ g in
-    (h .0, l .loop .inv .0 .2 .1)
+    let h = came-to (a .words .now) (a .capacities) (a .counts) (o .pre .0 .0) (o .pre .0 .1) (a .guid .now) (l .loop .providers) (l .loop .inv .0 .2) _ g in
+    (o .pre .0 .0, h .0, l .loop .inv .0 .2 .1)
 
 loop-less : tie.Need-loop-less Inv-loop μ-loop
 loop-less c =
-    let p = c .before .before .before .before in
+    let p = c .before .before .before .before .before in
     let f = p .before .before in
     let e = f .before in
     let x = e .before .before in
@@ -117,14 +104,13 @@ loop-less c =
     let r = l .before .before .before .before in
     let o = r .before .before .before .before in
     let a = o .args in
-    let w = at (l .loop .events) (l .loop .templates) (l .loop .providers) in
     let g = sym (f .find .ensures) ∙ p .p .given .1 in
-    let h = came-to (a .words .now) (a .capacities) (a .counts) (a .guid .now) (a .key .now) w (o .pre .0 .0) (o .pre .0 .1) (l .loop .inv .0) _ g in
-    rw (c .behind .ensures) (h .3)
+    let h = came-to (a .words .now) (a .capacities) (a .counts) (o .pre .0 .0) (o .pre .0 .1) (a .guid .now) (l .loop .providers) (l .loop .inv .0 .2) _ g in
+    rw (c .before .before .before .come-to .ensures) (h .2)
 
 loop-again : tie.Need-loop-again Inv-loop μ-loop
 loop-again c =
-    let p = c .before .before .before .before in
+    let p = c .before .before .before .before .before in
     let f = p .before .before in
     let e = f .before in
     let x = e .before .before in
@@ -132,15 +118,11 @@ loop-again c =
     let r = l .before .before .before .before in
     let o = r .before .before .before .before in
     let a = o .args in
-    let w = at (l .loop .events) (l .loop .templates) (l .loop .providers) in
     let g = sym (f .find .ensures) ∙ p .p .given .1 in
-    let h = came-to (a .words .now) (a .capacities) (a .counts) (a .guid .now) (a .key .now) w (o .pre .0 .0) (o .pre .0 .1) (l .loop .inv .0) _ g in
-    let q : at (c .before .before .owned .result) (c .before .owned2 .result) (c .behind .result) ≡ cameTo (a .words .now) (a .capacities) (a .counts) (l .loop .providers) _ =
-    ap (λ (v : Run). at v (c .before .owned2 .result) (c .behind .result)) (c .before .before .owned .ensures)
-    ∙ ap₂ (λ (t u : Run). at (owned (a .words .now) (a .capacities) (a .counts) (p .p .given .0 .0) EVNT) t u) (c .before .owned2 .ensures) (c .behind .ensures) in
-    let n = l .loop .inv .2 ∙ tells-over (a .words .now) (r .run-of .result) (l .loop .templates) (a .key .now) (l .loop .marks) (l .loop .events) _ _ (x .next-new .ensures .0) _ (r .run-of .ensures) _ (e .enum-told .given .1) ∙ come-to (a .words .now) (a .capacities) (a .counts) (a .guid .now) (a .key .now) w _ _ g in
-    subst (λ (v : Walk). Stands (a .words .now) (runOf (a .capacities) (a .counts) (place TEMPLATES)) v × (ahead v ≤ ahead (a .walk)) × (newOf (a .words .now) (a .capacities) (a .counts) (a .guid .now) (a .key .now) (a .marks .now) (a .walk) ≡ newOf (a .words .now) (a .capacities) (a .counts) (a .guid .now) (a .key .now) (x .next-new .last .1 .1 .1 .1 .1 .0) v))
-    (sym q) (h .1, omega (arith, h .2, l .loop .inv .1), n)
+    let h = came-to (a .words .now) (a .capacities) (a .counts) (o .pre .0 .0) (o .pre .0 .1) (a .guid .now) (l .loop .providers) (l .loop .inv .0 .2) _ g in
+    let n = l .loop .inv .2 ∙ tells-over (a .words .now) (r .run-of .result) (l .loop .templates) (a .key .now) (l .loop .marks) (l .loop .events) _ _ (x .next-new .ensures .0) _ (r .run-of .ensures) _ (e .enum-told .given .1) ∙ come-to (a .words .now) (a .capacities) (a .counts) (a .guid .now) (a .key .now) (l .loop .providers) _ _ g in
+    subst (λ (w : Walk). Stands (a .words .now) (runOf (a .capacities) (a .counts) (place TEMPLATES)) w × (ahead w ≤ ahead (a .walk)) × (newOf (a .words .now) (a .capacities) (a .counts) (a .guid .now) (a .key .now) (a .marks .now) (a .walk) ≡ newOf (a .words .now) (a .capacities) (a .counts) (a .guid .now) (a .key .now) (x .next-new .last .1 .1 .1 .1 .1 .0) w))
+    (sym (c .before .before .before .come-to .ensures)) (h .1, omega (arith, h .2, h .1 .0 .1, l .loop .inv .1), n)
 
 pub advance-spec : {M : Type 1} → statement M
 advance-spec =
@@ -158,8 +140,6 @@ advance-spec =
     enum-known-p
     enum-told-2
     returns-2
-    owned-requires
-    owned-requires-2
-    behind-requires
+    come-to-requires
     loop-less
     loop-again)

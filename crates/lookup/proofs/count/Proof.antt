@@ -4,31 +4,25 @@ use mathlib.Core.Path.{_≡_, ap, sym, _∙_, subst}
 use lib.ListN.{length}
 use Rattle.format.specs.Area.{TEMPLATES, place}
 use Rattle.lists.specs.Found.{runOf}
-use Rattle.lookup.specs.Given.{unset, Stands, ahead, newOf, givenBy, stepped, onward}
-use Rattle.lookup.specs.ByKey.{begins}
+use Rattle.lookup.specs.Given.{unset, Stands, ahead, newOf, stepped, onward}
 use borrow.Author.Needs.{needs}
 use native.Mathlib.Omega.{arith}
 use Rattle.lookup.proofs.count.Statement.{statement}
 use Rattle.lookup.proofs.count.Tie as tie
 
 abbrev Inv-loop : tie.InvT-loop
-Inv-loop words capacities counts guid key most marks₀ walk₀ n₀ marks walk n =
-    Stands words (runOf capacities counts (place TEMPLATES)) walk
+Inv-loop words capacities counts guid key most marks₀ at₀ n₀ marks at n =
+    Stands words (runOf capacities counts (place TEMPLATES)) at
     × (n ≤ most + 1)
-    × (length (givenBy words capacities counts guid key) ≡ n + length (newOf words capacities counts guid key marks walk))
+    × (length (newOf words capacities counts guid key unset at₀) ≡ n + length (newOf words capacities counts guid key marks at))
 
 abbrev μ-loop : tie.MeasureT-loop
-μ-loop words capacities counts guid key most marks₀ walk₀ n₀ marks walk n = ahead walk
+μ-loop words capacities counts guid key most marks₀ at₀ n₀ marks at n = ahead at
 
 loop-holds : tie.Need-loop-holds Inv-loop μ-loop
 loop-holds c =
-    let o = c .before .before .before .before in
-    let a = o .args in
-    let e = sym (c .begin .ensures) in (
-      subst (Stands (a .words .now) (runOf (a .capacities) (a .counts) (place TEMPLATES))) e (begins (a .words .now) (a .capacities) (a .counts) (o .pre .0 .0) (o .pre .0 .1)),
-      omega arith,
-      omega (arith, ap (λ w. length (newOf (a .words .now) (a .capacities) (a .counts) (a .guid .now) (a .key .now) unset w)) e),
-    )
+    let o = c .before .before .before in
+    (o .pre .1 .1, omega arith, omega arith)
 
 advance-requires : tie.Need-advance-requires Inv-loop μ-loop
 advance-requires c κs = search needs
@@ -40,26 +34,26 @@ returns : tie.Need-returns Inv-loop μ-loop
 returns c =
     let x = c .before .before in
     let l = x .before .before .before in
-    let a = l .before .before .before .before .before .args in
+    let a = l .before .before .before .before .args in
     omega (arith, l .loop .inv .2, ap length (x .advance .ensures .0 ∙ ap (stepped (a .words .now) (a .capacities) (a .counts) (a .guid .now) (a .key .now) _) (c .enum-told .given .1)), x .before .before .loop-test .taken)
 
 add-n : tie.Need-add-n Inv-loop μ-loop
-add-n c = omega (arith, c .before .before .before .before .before .loop-test .taken, c .before .before .before .before .before .before .before .before .before .before .before .pre .1 .2)
+add-n c = omega (arith, c .before .before .before .before .before .loop-test .taken, c .before .before .before .before .before .before .before .before .before .before .pre .1 .0 .2)
 
 loop-less : tie.Need-loop-less Inv-loop μ-loop
 loop-less c =
     let x = c .before .before .before in
     let l = x .before .before .before in
-    let a = l .before .before .before .before .before .args in
-    let h = subst (onward (a .words .now) (runOf (a .capacities) (a .counts) (place TEMPLATES)) (l .loop .walk)) (c .before .behind .given .1) (x .advance .ensures .1) in
+    let a = l .before .before .before .before .args in
+    let h = subst (onward (a .words .now) (runOf (a .capacities) (a .counts) (place TEMPLATES)) (l .loop .at)) (c .before .behind .given .1) (x .advance .ensures .1) in
     h .2
 
 loop-again : tie.Need-loop-again Inv-loop μ-loop
 loop-again c =
     let x = c .before .before .before in
     let l = x .before .before .before in
-    let a = l .before .before .before .before .before .args in
-    let h = subst (onward (a .words .now) (runOf (a .capacities) (a .counts) (place TEMPLATES)) (l .loop .walk)) (c .before .behind .given .1) (x .advance .ensures .1) in
+    let a = l .before .before .before .before .args in
+    let h = subst (onward (a .words .now) (runOf (a .capacities) (a .counts) (place TEMPLATES)) (l .loop .at)) (c .before .behind .given .1) (x .advance .ensures .1) in
     (h .1, omega (arith, x .before .before .loop-test .taken), omega (arith, l .loop .inv .2, ap length (x .advance .ensures .0 ∙ ap (stepped (a .words .now) (a .capacities) (a .counts) (a .guid .now) (a .key .now) _) (c .before .behind .given .1))))
 
 returns-2 : tie.Need-returns-2 Inv-loop μ-loop
@@ -71,7 +65,6 @@ count-spec =
     (tie.spec
     Inv-loop
     μ-loop
-    (λ c κs. search needs)
     loop-holds
     advance-requires
     (λ c. search needs)

@@ -6,35 +6,27 @@ use Rattle.blob.specs.Laid.{laid, flat}
 use Rattle.format.specs.Area.{TEMPLATES, place}
 use Rattle.format.specs.Entry.{GUID}
 use Rattle.lists.specs.Found.{runOf}
-use Rattle.lookup.specs.Given.{Listed, unset, guidOf, Stands, ahead, newOf, givenBy, stepped, onward, guids-more, guids-none, guid-length}
-use Rattle.lookup.specs.ByKey.{begins}
+use Rattle.lookup.specs.Given.{Listed, unset, guidOf, Stands, ahead, newOf, stepped, onward, guids-more, guids-none, guid-length}
 use borrow.Author.Needs.{needs}
 use native.Mathlib.Omega.{arith}
 use Rattle.lookup.proofs.fill.Statement.{statement}
 use Rattle.lookup.proofs.fill.Tie as tie
 
 abbrev Inv-loop : tie.InvT-loop
-Inv-loop words capacities counts guid key guids₀ list marks₀ walk₀ to₀ guids marks walk to =
-    Stands words (runOf capacities counts (place TEMPLATES)) walk
+Inv-loop words capacities counts guid key guids₀ list marks₀ at₀ to₀ guids marks at to =
+    Stands words (runOf capacities counts (place TEMPLATES)) at
     × (length guids ≡ length guids₀)
-    × (to + GUID * length (newOf words capacities counts guid key marks walk) ≤ length guids)
-    × (laid guids₀ 0 (flat (guidOf words (runOf capacities counts (place TEMPLATES))) (givenBy words capacities counts guid key))
-    ≡ laid guids to (flat (guidOf words (runOf capacities counts (place TEMPLATES))) (newOf words capacities counts guid key marks walk)))
+    × (to + GUID * length (newOf words capacities counts guid key marks at) ≤ length guids)
+    × (laid guids₀ 0 (flat (guidOf words (runOf capacities counts (place TEMPLATES))) (newOf words capacities counts guid key unset at₀))
+    ≡ laid guids to (flat (guidOf words (runOf capacities counts (place TEMPLATES))) (newOf words capacities counts guid key marks at)))
 
 abbrev μ-loop : tie.MeasureT-loop
-μ-loop words capacities counts guid key guids₀ list marks₀ walk₀ to₀ guids marks walk to = ahead walk
+μ-loop words capacities counts guid key guids₀ list marks₀ at₀ to₀ guids marks at to = ahead at
 
 loop-holds : tie.Need-loop-holds Inv-loop μ-loop
 loop-holds c =
-    let o = c .before .before .before .before .before .before in
-    let a = o .args in
-    let e = sym (c .begin .ensures) in
-    let n = ap (newOf (a .words .now) (a .capacities) (a .counts) (a .guid .now) (a .key .now) unset) e in (
-      subst (Stands (a .words .now) (runOf (a .capacities) (a .counts) (place TEMPLATES))) e (begins (a .words .now) (a .capacities) (a .counts) (o .pre .0 .0) (o .pre .0 .1)),
-      refl,
-      omega (arith, o .pre .1 .1, ap length n),
-      ap (λ ns. laid (a .guids .now) 0 (flat (guidOf (a .words .now) (runOf (a .capacities) (a .counts) (place TEMPLATES))) ns)) n,
-    )
+    let o = c .before .before .before .before .before in
+    (o .pre .1 .1 .0, refl, omega (arith, o .pre .1 .1 .1), refl)
 
 enum-told : tie.Need-enum-told Inv-loop μ-loop
 enum-told c = search needs
@@ -47,7 +39,7 @@ returns : tie.Need-returns Inv-loop μ-loop
 returns c =
     let x = c .before .before in
     let l = x .before .before in
-    let a = l .before .before .before .before .before .before .before .args in
+    let a = l .before .before .before .before .before .before .args in
     sym (l .loop .inv .3 ∙ guids-none (guidOf (a .words .now) (runOf (a .capacities) (a .counts) (place TEMPLATES))) _ _ _ (x .advance .ensures .0 ∙ ap (stepped (a .words .now) (a .capacities) (a .counts) (a .guid .now) (a .key .now) _) (c .enum-told .given .1)))
 
 guid-of-requires : tie.Need-guid-of-requires Inv-loop μ-loop
@@ -55,31 +47,31 @@ guid-of-requires c κs =
     let n = c .before .before in
     let x = n .before .before in
     let l = x .before .before in
-    let o = l .before .before .before .before .before .before .before in
+    let o = l .before .before .before .before .before .before in
     let a = o .args in
-    let h = subst (onward (a .words .now) (runOf (a .capacities) (a .counts) (place TEMPLATES)) (l .loop .walk)) (n .n .given .1) (x .advance .ensures .1) in
-    subst (λ r. Listed r (a .words .now) × (n .n .given .0 .0 < r .count)) (sym (l .before .before .run-of .ensures)) (h .1 .1 .0, h .0)
+    let h = subst (onward (a .words .now) (runOf (a .capacities) (a .counts) (place TEMPLATES)) (l .loop .at)) (n .n .given .1) (x .advance .ensures .1) in
+    subst (λ r. Listed r (a .words .now) × (n .n .given .0 .0 < r .count)) (sym (l .before .run-of .ensures)) (h .1 .1 .0, h .0)
 
 put-requires : tie.Need-put-requires Inv-loop μ-loop
 put-requires c κs =
     let n = c .before .before .before in
     let x = n .before .before in
     let l = x .before .before in
-    let o = l .before .before .before .before .before .before .before in
+    let o = l .before .before .before .before .before .before in
     let a = o .args in
-    let h = subst (onward (a .words .now) (runOf (a .capacities) (a .counts) (place TEMPLATES)) (l .loop .walk)) (n .n .given .1) (x .advance .ensures .1) in
+    let h = subst (onward (a .words .now) (runOf (a .capacities) (a .counts) (place TEMPLATES)) (l .loop .at)) (n .n .given .1) (x .advance .ensures .1) in
     let e = x .advance .ensures .0 ∙ ap (stepped (a .words .now) (a .capacities) (a .counts) (a .guid .now) (a .key .now) _) (n .n .given .1) in
     let g = guid-length (a .words .now) (runOf (a .capacities) (a .counts) (place TEMPLATES)) _ (h .1 .1 .0) (h .0) in
-    omega (arith, l .loop .inv .2, ap length e, ap length (c .guid-of .ensures ∙ ap (λ r. guidOf (a .words .now) r (n .n .given .0 .0)) (l .before .before .run-of .ensures)) ∙ g)
+    omega (arith, l .loop .inv .2, ap length e, ap length (c .guid-of .ensures ∙ ap (λ r. guidOf (a .words .now) r (n .n .given .0 .0)) (l .before .run-of .ensures)) ∙ g)
 
 add-to : tie.Need-add-to Inv-loop μ-loop
 add-to c =
     let n = c .before .before .before .before .before .before in
     let x = n .before .before in
     let l = x .before .before in
-    let o = l .before .before .before .before .before .before .before in
+    let o = l .before .before .before .before .before .before in
     let a = o .args in
-    let h = subst (onward (a .words .now) (runOf (a .capacities) (a .counts) (place TEMPLATES)) (l .loop .walk)) (n .n .given .1) (x .advance .ensures .1) in
+    let h = subst (onward (a .words .now) (runOf (a .capacities) (a .counts) (place TEMPLATES)) (l .loop .at)) (n .n .given .1) (x .advance .ensures .1) in
     let e = x .advance .ensures .0 ∙ ap (stepped (a .words .now) (a .capacities) (a .counts) (a .guid .now) (a .key .now) _) (n .n .given .1) in
     omega (arith, o .good, l .loop .inv .1, l .loop .inv .2, ap length e)
 
@@ -88,9 +80,9 @@ loop-less c =
     let n = c .before .before .before .before .before .before in
     let x = n .before .before in
     let l = x .before .before in
-    let o = l .before .before .before .before .before .before .before in
+    let o = l .before .before .before .before .before .before in
     let a = o .args in
-    let h = subst (onward (a .words .now) (runOf (a .capacities) (a .counts) (place TEMPLATES)) (l .loop .walk)) (n .n .given .1) (x .advance .ensures .1) in
+    let h = subst (onward (a .words .now) (runOf (a .capacities) (a .counts) (place TEMPLATES)) (l .loop .at)) (n .n .given .1) (x .advance .ensures .1) in
     h .2
 
 loop-again : tie.Need-loop-again Inv-loop μ-loop
@@ -98,13 +90,13 @@ loop-again c =
     let n = c .before .before .before .before .before .before in
     let x = n .before .before in
     let l = x .before .before in
-    let o = l .before .before .before .before .before .before .before in
+    let o = l .before .before .before .before .before .before in
     let a = o .args in
-    let h = subst (onward (a .words .now) (runOf (a .capacities) (a .counts) (place TEMPLATES)) (l .loop .walk)) (n .n .given .1) (x .advance .ensures .1) in
+    let h = subst (onward (a .words .now) (runOf (a .capacities) (a .counts) (place TEMPLATES)) (l .loop .at)) (n .n .given .1) (x .advance .ensures .1) in
     let e = x .advance .ensures .0 ∙ ap (stepped (a .words .now) (a .capacities) (a .counts) (a .guid .now) (a .key .now) _) (n .n .given .1) in
     let g = guid-length (a .words .now) (runOf (a .capacities) (a .counts) (place TEMPLATES)) _ (h .1 .1 .0) (h .0) in
     let p = c .before .before in
-    let u = p .put .ensures ∙ ap (laid (l .loop .guids) (l .loop .to)) (p .before .guid-of .ensures ∙ ap (λ r. guidOf (a .words .now) r (n .n .given .0 .0)) (l .before .before .run-of .ensures)) in (
+    let u = p .put .ensures ∙ ap (laid (l .loop .guids) (l .loop .to)) (p .before .guid-of .ensures ∙ ap (λ r. guidOf (a .words .now) r (n .n .given .0 .0)) (l .before .run-of .ensures)) in (
       h .1,
       p .put .kept .0 ∙ l .loop .inv .1,
       omega (arith, l .loop .inv .2, ap length e, p .put .kept .0),
@@ -117,7 +109,6 @@ fill-spec =
     (tie.spec
     Inv-loop
     μ-loop
-    (λ c κs. search needs)
     (λ c κs. search needs)
     loop-holds
     (λ c κs. search needs)
