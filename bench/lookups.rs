@@ -76,41 +76,57 @@ fn key(guid: [u32; 4], event: u32) -> [u32; raw::KEY_WORDS] {
 /// Providers of one GUID with so many events and templates each. The keys of a provider's events
 /// differ; the last names the last template, the others those before it.
 fn block(providers: u32, events: u32, templates: u32) -> Vec<u8> {
-    written(providers, |w| {
-        let [evnt, ttbl] = [w.events(events), w.templates(templates, 0)];
-        for back in 0..events {
-            let record = evnt + 16 + 48 * (events - 1 - back);
-            w.set(
-                record + 20,
-                ttbl + 12 + 40 * (templates - 1 - back % templates),
-            );
-        }
-        [evnt, ttbl]
-    })
-}
-
-/// Providers of one GUID with so many events and templates each, all events with one key and with
-/// the offset of no template.
-fn hostile(providers: u32, events: u32, templates: u32) -> Vec<u8> {
-    written(providers, |w| {
-        let [evnt, ttbl] = [w.events(events), w.templates(templates, 0)];
-        for event in 0..events {
-            let record = evnt + 16 + 48 * event;
-            w.set(record, 0);
-            w.set(record + 20, NOWHERE);
-        }
-        [evnt, ttbl]
-    })
-}
-
-/// Providers of one GUID that all lead to one WEVT, with these elements.
-fn written<const N: usize>(providers: u32, elements: impl Fn(&mut Writer) -> [u32; N]) -> Vec<u8> {
     let mut w = Writer::new(providers);
-    let elements = elements(&mut w);
+    let [evnt, ttbl] = [w.events(events), w.templates(templates, 0)];
+    for back in 0..events {
+        let template = templates - 1 - back % templates;
+        let record = evnt + 16 + 48 * (events - 1 - back);
+        w.set(record + 20, ttbl + 12 + 40 * template);
+    }
+    let wevt = w.wevt(&[evnt, ttbl], 0);
+    closed(w, providers, |_| wevt)
+}
+
+/// Providers of one GUID with so many events and templates each, all events with one key: the first
+/// names the first template, and the others one that is not there.
+fn hostile(providers: u32, events: u32, templates: u32) -> Vec<u8> {
+    let mut w = Writer::new(providers);
+    let elements = hostile_tables(&mut w, events, templates);
     let wevt = w.wevt(&elements, 0);
+    closed(w, providers, |_| wevt)
+}
+
+fn hostile_tables(w: &mut Writer, events: u32, templates: u32) -> [u32; 2] {
+    let [evnt, ttbl] = [w.events(events), w.templates(templates, 0)];
+    for event in 0..events {
+        let record = evnt + 16 + 48 * event;
+        w.set(record, 0);
+        w.set(record + 20, if event == 0 { ttbl + 12 } else { NOWHERE });
+    }
+    [evnt, ttbl]
+}
+
+/// Providers of one GUID, the first with an event and its template, the others with neither but with
+/// another table.
+fn hostile_providers(providers: u32) -> Vec<u8> {
+    let mut w = Writer::new(providers);
+    let elements = hostile_tables(&mut w, 1, 1);
+    let levels = w.levels(std::iter::empty());
+    let [first, others] = [w.wevt(&elements, 0), w.wevt(&[levels], 0)];
+    closed(
+        w,
+        providers,
+        |provider| {
+            if provider == 0 { first } else { others }
+        },
+    )
+}
+
+/// The whole block, each provider with the GUID and with its WEVT.
+fn closed(mut w: Writer, providers: u32, wevt: impl Fn(u32) -> u32) -> Vec<u8> {
     for provider in 0..providers {
         w.set(16 + 20 * provider, GUID[0]);
-        w.provider(provider, wevt);
+        w.provider(provider, wevt(provider));
     }
     w.close()
 }
@@ -189,8 +205,7 @@ pub fn hostile_lists() {
         row("events × templates", &[each, each], &mut lists);
     }
     for providers in [4096_u32, 32_768] {
-        let levels = written(providers, |w| [w.levels(std::iter::empty())]);
-        let mut lists = Lists::read(&levels);
+        let mut lists = Lists::read(&hostile_providers(providers));
         row("providers × tables", &[providers; 2], &mut lists);
     }
     for (providers, each) in [(16_u32, 64), (64, 64)] {
@@ -213,7 +228,7 @@ fn row(name: &str, factors: &[u32], lists: &mut Lists) {
     let start = Instant::now();
     while least.is_infinite() || start.elapsed().as_millis() < 500 {
         let began = Instant::now();
-        assert_eq!(lists.look_up(&key), 0);
+        assert_eq!(lists.look_up(&key), 1);
         least = least.min(began.elapsed().as_nanos() as f64);
     }
     let product: f64 = factors.iter().copied().map(f64::from).product();
