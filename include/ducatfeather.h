@@ -462,8 +462,9 @@ uint32_t ducat_template_at(const uint32_t *words, size_t words_len,
                            uint32_t first, uint32_t count, uint32_t offset,
                            uint64_t *answer, size_t answer_len);
 
-/* By key: the GUIDs of the templates of the events with this key, each once, in first-seen order. Taken are the first provider
- * with the key's GUID, its first EVNT and its first TTBL. No such provider, event or template is code 0 and no GUIDs.
+/* By key: the GUIDs of the templates of the events with this key, each once, in first-seen order. All providers with the key's GUID
+ * are gone through, in their order: of each, the events of its first EVNT, whose templates are looked for in its first TTBL alone.
+ * No such provider, event or template is code 0 and no GUIDs.
  *
  * key, key_len      DUCAT_KEY_WORDS words.
  * guids, guids_len  the list that the GUIDs are written to. Its capacity is guids_len / DUCAT_GUID_WORDS, rounded down; over

@@ -1,6 +1,6 @@
 //! drive FOLDER: the samples. `drive.crim` is a block of the sort that a drive cabinet's provider file holds, written with the
-//! benchmark's writer; `drive.txt` is its listing and `fields.txt` what its templates' items are, both told from what was written and
-//! where; `t.bin` is the blob T.
+//! benchmark's writer; `drive.txt` is its listing, `fields.txt` what its templates' items are and `events.txt` which templates its events'
+//! keys give, all told from what was written and where; `t.bin` is the blob T.
 
 #[path = "../oracle/generator/small.rs"]
 #[allow(dead_code)]
@@ -54,12 +54,15 @@ struct Provider {
 /// Names that no zero unit ends: a task's, and an item's.
 const RUN_OUT: [&str; 2] = ["RopeInspected", "Inspector"];
 
+/// The GUID that two providers have.
+const CABINET: [u32; 4] = [0x5b1f_33d2, 0x4f0e_9a61, 0x71c4_08b3, 0x1d92_6ee7];
+
 const LEVELS: [&str; 3] = ["win:Error", "win:Warning", "win:Informational"];
 
-const PROVIDERS: [Provider; 3] = [
+const PROVIDERS: [Provider; 4] = [
     // The drive cabinet.
     Provider {
-        guid: [0x5b1f_33d2, 0x4f0e_9a61, 0x71c4_08b3, 0x1d92_6ee7],
+        guid: CABINET,
         channels: &["DriveCabinet/Operational", "DriveCabinet/Diagnostic"],
         tasks: &["CarPassed", "DriveStarted", "DriveStopped"],
         opcodes: &["Up", "Down"],
@@ -117,6 +120,39 @@ const PROVIDERS: [Provider; 3] = [
         maps: &[],
         events: &[(300, 4, 0, 0, 0, &[])],
     },
+    // The drive cabinet again: what it logs since its software was renewed, in a second WEVT of its GUID.
+    Provider {
+        guid: CABINET,
+        channels: &[],
+        tasks: &["CarPassed", "RollerPassed"],
+        opcodes: &["Up", "Down"],
+        keywords: &["Position"],
+        maps: &[],
+        events: &[
+            (
+                100,
+                4,
+                1,
+                1,
+                1,
+                &[
+                    ("Car", U32),
+                    ("Position", U32),
+                    ("Tick", U32),
+                    ("Metres", U32),
+                ],
+            ),
+            (
+                101,
+                4,
+                1,
+                2,
+                1,
+                &[("Car", U32), ("Position", U32), ("Tick", U32)],
+            ),
+            (120, 4, 2, 0, 1, &[("Roller", U32), ("Metres", U32)]),
+        ],
+    },
 ];
 
 fn main() -> std::io::Result<()> {
@@ -138,6 +174,7 @@ fn main() -> std::io::Result<()> {
     std::fs::write(folder.join("drive.crim"), block)?;
     std::fs::write(folder.join("drive.txt"), first + &told.listing)?;
     std::fs::write(folder.join("fields.txt"), told.fields)?;
+    std::fs::write(folder.join("events.txt"), joins())?;
     std::fs::write(folder.join("t.bin"), small::t())
 }
 
@@ -242,16 +279,8 @@ fn templates(
             continue;
         }
         let temp = w.open(b"TEMP");
-        w.words(&[
-            0,
-            0,
-            0,
-            1,
-            identifier,
-            0x4a11_0c3f,
-            0x83d2_96e0,
-            0x2b57_f4a9,
-        ]);
+        w.words(&[0, 0, 0, 1]);
+        w.words(&template_guid(identifier, values));
         let binxml = binxml(values);
         w.bytes.extend(&binxml);
         let items = values.iter().map(|&(name, Type(input, output, length))| {
@@ -268,6 +297,57 @@ fn templates(
     w.end(place);
     elements.push(place);
     places
+}
+
+/// The GUID of a template: events of one identifier that carry as many values have one.
+fn template_guid(identifier: u32, values: Values) -> [u32; 4] {
+    let values = values.len() as u32;
+    [
+        identifier | values << 16,
+        0x4a11_0c3f,
+        0x83d2_96e0,
+        0x2b57_f4a9,
+    ]
+}
+
+/// The templates that each event's key gives, as the Rust crate's example shows them: those of all events with that key, of all
+/// providers with that GUID, each once.
+fn joins() -> String {
+    let mut lines = String::new();
+    for (number, provider) in PROVIDERS.iter().enumerate() {
+        let alike = PROVIDERS
+            .iter()
+            .filter(|other| other.guid == provider.guid)
+            .flat_map(|other| other.events);
+        for event in provider.events {
+            lines += &format!("event {} of provider {number}:", event.0);
+            let mut given = Vec::new();
+            for other in alike.clone().filter(|other| key(other) == key(event)) {
+                let guid = template_guid(other.0, other.5);
+                if !other.5.is_empty() && !given.contains(&guid) {
+                    given.push(guid);
+                    lines += &format!(" {}", shown_guid(guid));
+                }
+            }
+            lines += "\n";
+        }
+    }
+    lines
+}
+
+fn key(&(identifier, level, task, opcode, keywords, _): &Event) -> [u32; 5] {
+    [identifier, level, task, opcode, keywords]
+}
+
+/// A GUID in its usual form.
+fn shown_guid([a, b, c, d]: [u32; 4]) -> String {
+    let [c, d] = [c, d].map(u32::swap_bytes);
+    let (second, third) = (b & 0xffff, b >> 16);
+    format!(
+        "{a:08X}-{second:04X}-{third:04X}-{:04X}-{:04X}{d:08X}",
+        c >> 16,
+        c & 0xffff
+    )
 }
 
 /// The fields of a template, as the Rust crate's example shows them, and where FIELD is among them.

@@ -7,7 +7,7 @@
 #include <string.h>
 
 /* What the lent GUIDs hold before, and how many words of them there are. */
-enum { KEPT_GUID = 0x5a5a5a5a, GUIDS_LENT = 2 * DUCAT_GUID_WORDS + 2 };
+enum { KEPT_GUID = 0x5a5a5a5a, GUIDS_LENT = 3 * DUCAT_GUID_WORDS + 2 };
 
 static uint64_t answer[DUCAT_GUIDS_NUMBERS + 1];
 static uint32_t guids[GUIDS_LENT];
@@ -43,8 +43,8 @@ static int answered_for(uint64_t code, uint64_t first, uint64_t second, uint64_t
 }
 
 /* Whether the lent GUIDs start with those of so many numbers, and all behind them is kept. */
-static int given(int count, uint32_t first, uint32_t second) {
-    const struct ducat_guid expected[] = {guid_of(first), guid_of(second)};
+static int given(int count, uint32_t first, uint32_t second, uint32_t third) {
+    const struct ducat_guid expected[] = {guid_of(first), guid_of(second), guid_of(third)};
     if (memcmp(guids, expected, count * sizeof expected[0]) != 0)
         return 0;
     for (int i = count * DUCAT_GUID_WORDS; i < GUIDS_LENT; i++)
@@ -55,26 +55,31 @@ static int given(int count, uint32_t first, uint32_t second) {
 
 /* Whether a lookup with so much room is refused with a code, and writes no GUID. */
 static int refused(const struct lists *l, size_t guids_len, uint32_t code) {
-    return look_for(l, guids_len) == code && answered_for(code, 0, 0, 0) && given(0, 0, 0);
+    return look_for(l, guids_len) == code && answered_for(code, 0, 0, 0) && given(0, 0, 0, 0);
+}
+
+/* Whether it is refused because the list has room for so many GUIDs only, and writes none. */
+static int too_small(const struct lists *l, size_t guids_len, uint64_t room) {
+    return look_for(l, guids_len) == DUCAT_LIST_TOO_SMALL && answered_for(DUCAT_LIST_TOO_SMALL, DUCAT_GUIDS, room, 0) &&
+           given(0, 0, 0, 0);
 }
 
 /* Whether it gives the GUIDs of so many numbers. */
-static int found(const struct lists *l, size_t guids_len, int count, uint32_t first, uint32_t second) {
+static int found(const struct lists *l, size_t guids_len, int count, uint32_t first, uint32_t second, uint32_t third) {
     return look_for(l, guids_len) == DUCAT_ACCEPTED && answered_for(DUCAT_ACCEPTED, 0, 0, (uint64_t)count) &&
-           given(count, first, second);
+           given(count, first, second, third);
 }
 
 static void by_events(struct lists *l) {
     fill_lists(l);
-    check(found(l, GUIDS_LENT, 2, 72, 71), "each GUID once, in first-seen order, from the first tables of a kind");
-    check(look_for(l, 7) == DUCAT_LIST_TOO_SMALL && answered_for(DUCAT_LIST_TOO_SMALL, DUCAT_GUIDS, 1, 0) && given(0, 0, 0),
-          "room for one GUID");
+    check(found(l, GUIDS_LENT, 2, 72, 71, 0), "each GUID once, in first-seen order, from the first tables of a kind");
+    check(too_small(l, 7, 1), "room for one GUID");
     put_template(l, 1, 200, 71);
-    check(found(l, 4, 1, 71, 0), "two templates of one GUID");
+    check(found(l, 4, 1, 71, 0, 0), "two templates of one GUID");
     put_event(l, 0, 1001, 0);
     put_event(l, 1, 1001, 400);
     put_event(l, 2, 1002, 100);
-    check(found(l, 4, 0, 0, 0), "no offset, no template, another key");
+    check(found(l, 4, 0, 0, 0, 0), "no offset, no template, another key");
 }
 
 static void by_provider(struct lists *l) {
@@ -83,14 +88,31 @@ static void by_provider(struct lists *l) {
         struct ducat_guid other = guid_of(5);
         other.words[i]++;
         put_provider(l, 0, other);
-        check(found(l, 8, 0, 0, 0), "a GUID that is not there");
+        check(found(l, 8, 0, 0, 0, 0), "a GUID that is not there");
     }
     put_provider(l, 1, guid_of(5));
     put_table(l, 2, 1, DUCAT_EVNT, 3, 1);
     put_table(l, 3, 1, DUCAT_TTBL, 3, 1);
-    check(found(l, 8, 1, 74, 0), "the second provider");
-    put_provider(l, 0, guid_of(5));
-    check(found(l, 8, 2, 72, 71), "the first of that GUID");
+    check(found(l, 8, 1, 74, 0, 0), "the second provider");
+}
+
+static void by_providers(struct lists *l) {
+    fill_lists(l);
+    put_provider(l, 1, guid_of(5));
+    put_table(l, 2, 1, DUCAT_EVNT, 3, 1);
+    put_table(l, 3, 1, DUCAT_TTBL, 3, 1);
+    check(found(l, GUIDS_LENT, 3, 72, 71, 74), "two providers of one GUID, in their order");
+    check(too_small(l, 11, 2), "room for the GUIDs of the first provider alone");
+    put_template(l, 3, 400, 71);
+    check(found(l, 8, 2, 72, 71, 0), "a GUID of both once");
+    put_template(l, 3, 400, 74);
+    put_event(l, 3, 1001, 100);
+    check(found(l, 8, 2, 72, 71, 0), "an event that names the other provider's template");
+    put_table(l, 2, 1, DUCAT_EVNT, 0, 3);
+    put_template(l, 3, 100, 74);
+    check(found(l, GUIDS_LENT, 3, 72, 71, 74), "events that both have, in the templates of each");
+    put_table(l, 3, 1, DUCAT_TTBL, 0, 3);
+    check(found(l, 8, 2, 72, 71, 0), "events and templates that both have");
 }
 
 static void apart(struct lists *l) {
@@ -121,9 +143,9 @@ static void lengths(struct lists *l) {
     check(refused(l, 8, DUCAT_BAD_LENDING), "a count too many, by key");
     fill_lists(l);
     check(look(l, DUCAT_KEY_WORDS + 1, guids, 8, DUCAT_GUIDS_NUMBERS) == DUCAT_BAD_LENDING &&
-          answered_for(DUCAT_BAD_LENDING, 0, 0, 0) && given(0, 0, 0), "a key of a word too many");
+          answered_for(DUCAT_BAD_LENDING, 0, 0, 0) && given(0, 0, 0, 0), "a key of a word too many");
     check(look(l, DUCAT_KEY_WORDS, guids, 8, DUCAT_GUIDS_NUMBERS + 1) == DUCAT_BAD_LENDING && answer[0] == UINT64_MAX &&
-          given(0, 0, 0), "a number too many, and all are kept");
+          given(0, 0, 0, 0), "a number too many, and all are kept");
 }
 
 static void most(struct lists *l) {
@@ -143,6 +165,7 @@ void test_by_key(void) {
     struct lists l = new_lists();
     by_events(&l);
     by_provider(&l);
+    by_providers(&l);
     apart(&l);
     lengths(&l);
     most(&l);

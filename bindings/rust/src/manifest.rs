@@ -142,8 +142,8 @@ impl<'a> Manifest<'a> {
     }
 
     /// The GUIDs of the templates of the events with a key, each once, in first-seen order; none
-    /// if there is no such event, or none with a template. The first provider with the key's GUID
-    /// is taken, and no other.
+    /// if there is no such event, or none with a template. All providers with the key's GUID are
+    /// gone through, in their order, and each event is looked for in its own provider's templates.
     ///
     /// The library keeps a mark for each template: about 70 KB of stack are used.
     pub fn templates_for(&self, key: &Key) -> Result<Vec<Guid>, Refusal> {

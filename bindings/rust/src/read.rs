@@ -37,7 +37,7 @@ pub fn read(blob: &[u8]) -> Result<Manifest<'_>, Refusal> {
 /// let needs = ducatfeather::needs(&blob)?;
 /// let mut words = vec![0; needs.words().ok_or("more than there can be room for")?];
 /// let manifest = ducatfeather::read_into(&blob, &needs, &mut words)?;
-/// # assert_eq!(manifest.templates().len(), 6);
+/// # assert_eq!(manifest.templates().len(), 9);
 /// # Ok::<(), Box<dyn std::error::Error>>(())
 /// ```
 pub fn read_into<'a>(

@@ -185,13 +185,59 @@ fn only_the_provider_itself() {
 }
 
 #[test]
-fn the_first_provider_with_that_guid() {
-    let first = Provider(9, &[(1, Some(0)), (2, None)], &[30]);
-    let second = Provider(9, &[(1, Some(0)), (2, Some(0)), (3, Some(0))], &[31]);
-    let blob = block(&[Provider(8, &[], &[]), first, second]);
-    assert_eq!(given(&blob, &key(9, 1)), [30]);
-    assert_eq!(given(&blob, &key(9, 2)), []);
-    assert_eq!(given(&blob, &key(9, 3)), []);
+fn all_providers_with_that_guid() {
+    let first = Provider(9, &[(1, Some(0)), (2, None), (4, Some(1))], &[30, 32]);
+    let other = Provider(8, &[(1, Some(0)), (3, Some(0))], &[33]);
+    let events = [(1, Some(0)), (2, Some(0)), (3, Some(0)), (4, Some(1))];
+    let second = Provider(9, &events, &[31, 32]);
+    let blob = block(&[Provider(8, &[], &[]), first, other, second]);
+    assert_eq!(given(&blob, &key(9, 1)), [30, 31]);
+    assert_eq!(given(&blob, &key(9, 2)), [31]);
+    assert_eq!(given(&blob, &key(9, 3)), [31]);
+    // Both have it, and it is given once.
+    assert_eq!(given(&blob, &key(9, 4)), [32]);
+    assert_eq!(given(&blob, &key(8, 1)), [33]);
+}
+
+#[test]
+fn templates_are_not_pooled() {
+    // The first provider's events lead past its templates, to those of the second; and back.
+    let first = Provider(9, &[(1, Some(2)), (2, Some(0))], &[30]);
+    let second = Provider(9, &[(1, Some(0)), (2, Some(1))], &[31]);
+    let mut blob = block(&[first, second]);
+    assert_eq!(given(&blob, &key(9, 1)), [31]);
+    assert_eq!(given(&blob, &key(9, 2)), [30]);
+    // Each event names the other provider's template.
+    let temp = |blob: &[u8], nth| {
+        let temps = blob.windows(4).enumerate().filter(|(_, w)| w == b"TEMP");
+        temps.map(|(at, _)| at as u32).nth(nth).unwrap()
+    };
+    let events: Vec<usize> = blob
+        .windows(4)
+        .enumerate()
+        .filter(|(_, w)| w == b"EVNT")
+        .map(|(at, _)| at + 16)
+        .collect();
+    let [one, two] = [temp(&blob, 0), temp(&blob, 1)];
+    for (event, offset) in events.into_iter().zip([two, one]) {
+        blob[event + 20..event + 24].copy_from_slice(&offset.to_le_bytes());
+    }
+    assert_eq!(given(&blob, &key(9, 1)), []);
+}
+
+#[test]
+fn many_providers_with_that_guid() {
+    // Backwards, each with its own template; and all with one.
+    let events: Vec<[(u32, Option<u32>); 2]> = vec![[(7, Some(0)), (8, Some(1))]; 100];
+    let templates: Vec<[u8; 2]> = (0..100).rev().map(|guid| [guid, 200]).collect();
+    let providers: Vec<Provider> = (0..100)
+        .map(|n| Provider(9, &events[n], &templates[n]))
+        .collect();
+    let blob = block(&providers);
+    let backwards: Vec<u8> = (0..100).rev().collect();
+    assert_eq!(given(&blob, &key(9, 7)), backwards);
+    assert_eq!(given(&blob, &key(9, 8)), [200]);
+    assert_eq!(given(&blob, &key(9, 9)), []);
 }
 
 #[test]
@@ -537,6 +583,36 @@ fn room_for_the_guids() {
 }
 
 #[test]
+fn ranges_of_two_providers() {
+    // Provider 0 has template 0, provider 2 the others; provider 1 has another GUID.
+    let with_events = |tables: [(u32, u32); 2]| {
+        let mut lent = Lent::new(6);
+        lent.provider(5).provider(6).provider(5);
+        lent.table(2, Kind::Ttbl, 1, 3).table(0, Kind::Ttbl, 0, 1);
+        lent.table(1, Kind::Evnt, 0, 4);
+        for (provider, (first, count)) in [2, 0].into_iter().zip(tables) {
+            lent.table(provider, Kind::Evnt, first, count);
+        }
+        lent.event(1, 50).event(1, 90).event(1, 76).event(1, 60);
+        lent.template(50, 5).template(76, 8);
+        lent.template(60, 5).template(90, 9);
+        lent
+    };
+    let apart = with_events([(2, 2), (0, 2)]);
+    assert_eq!(apart.guids(8), ([0, 0, 0, 0, 2], vec![5, 8]));
+    assert_eq!(apart.guids(7), ([9, 0, 11, 1, 0], Vec::new()));
+    // One range for both is gone through for each, in its own templates.
+    let shared = with_events([(0, 4), (0, 4)]);
+    assert_eq!(shared.guids(12), ([0, 0, 0, 0, 3], vec![5, 9, 8]));
+    assert_eq!(shared.guids(11), ([9, 0, 11, 2, 0], Vec::new()));
+    // The last provider alone; the first alone.
+    let last = with_events([(0, 4), (0, 0)]);
+    assert_eq!(last.guids(12).1, [9, 8, 5]);
+    let first = with_events([(0, 0), (0, 4)]);
+    assert_eq!(first.guids(12).1, [5]);
+}
+
+#[test]
 fn tables_that_do_not_fit() {
     let kinds = [
         (Kind::Chan, List::Definitions),
@@ -597,10 +673,17 @@ fn the_first_table_of_a_kind() {
 }
 
 #[test]
-fn the_first_provider_in_lent_words() {
+fn a_provider_without_events_before() {
     let mut lent = lists();
     *lent.word(List::Providers, 0, 0) = 5;
-    assert_eq!(lent.guids(8), refused(0), "it has no events");
-    *lent.word(List::Providers, 0, 3) = 1;
     assert_eq!(lent.guids(8).1, [70, 71]);
+    // Nor has the other one any, then.
+    *lent.word(List::Tables, 1, 0) = 0;
+    *lent.word(List::Tables, 1, 6) = 0;
+    assert_eq!(lent.guids(8), refused(0));
+    // Its events, in templates of its own.
+    *lent.word(List::Tables, 1, 6) = 3;
+    assert_eq!(lent.guids(8), refused(0));
+    *lent.word(List::Tables, 0, 5) = 1;
+    assert_eq!(lent.guids(8).1, [70]);
 }
