@@ -42,8 +42,8 @@ pub fn blob(rng: &mut Rng) -> Vec<u8> {
     draft.bytes
 }
 
-/// Providers with as many events or templates as a list can have room for, or with many of both; two
-/// or three share that number and have one GUID.
+/// Providers with as many events or templates as a list can have room for, or with many of both: one,
+/// or up to four of one GUID that share them.
 pub fn large(rng: &mut Rng) -> Vec<u8> {
     let mut draft = Draft::new(1);
     let providers = rng.between(1, 4);
