@@ -99,15 +99,11 @@ Tells words list templates key marks events marks' r =
 abbrev pub behind : Run → Run → Next → Type 0
 behind events list nexts.Over = Unit
 behind events list (nexts.Template n rest) =
-    (n < list .count) × (rest .count < events .count) × (rest .start ≡ events .start) × (rest .first + rest .count ≡ events .first + events .count)
+    (n < list .count) × (rest .start ≡ events .start) × (rest .first + rest .count ≡ events .first + events .count)
 
 -- Where the lookup stands: in the words, with a part of list 9.
 abbrev pub Stands : List ℕ → Run → Walk → Type 0
 Stands words list w = few (width EVENTS) (w .events) words × Part list (w .templates) words × few (width PROVIDERS) (w .providers) words
-
--- how far it has to go
-abbrev pub ahead : Walk → ℕ
-ahead w = 65537 * w .providers .count + w .events .count
 
 -- at a provider
 abbrev pub cameTo : List ℕ → List ℕ → List ℕ → Run → ℕ → Walk
@@ -139,10 +135,10 @@ module _ (words capacities counts guid key : List ℕ) where
   stepped marks steps.Over = []
   stepped marks (steps.Template n w) = n ∷ newOf marks w
 
--- a step comes to a template, and stands nearer to the end
-abbrev pub onward : List ℕ → Run → Walk → Step → Type 0
-onward words list w steps.Over = Unit
-onward words list w (steps.Template n w') = (n < list .count) × Stands words list w' × (ahead w' < ahead w)
+-- a step comes to a template, and stands behind it
+abbrev pub onward : List ℕ → Run → Step → Type 0
+onward words list steps.Over = Unit
+onward words list (steps.Template n w) = (n < list .count) × Stands words list w
 
 -- GUIDs, where a lent list has room for them; else 9
 abbrev pub roomFor : List ℕ → List Entry → Outcome (List Entry)
@@ -269,6 +265,10 @@ pub next-none : (words : List ℕ) (list templates : Run) (key : List ℕ) (mark
 unfolding entriesFrom flat
 next-none words list templates key marks start first left others h = let m : left ≡ 0 = omega arith in rw m
 
+none-left : {A : Type 0} (l : List A) → length l ≤ 0 → l ≡ []
+none-left [] h = refl
+none-left (x ∷ l) h = absurd (omega arith)
+
 -- Of GUIDs that are stored, those that are left decide.
 module _ (G : ℕ → List ℕ) (guids : List ℕ) (to : ℕ) (ns : List ℕ) where
   pub guids-more : (n : ℕ) (ms guids' : List ℕ) → ns ≡ n ∷ ms → guids' ≡ laid guids to (G n) → length (G n) ≡ GUID
@@ -279,9 +279,9 @@ module _ (G : ℕ → List ℕ) (guids : List ℕ) (to : ℕ) (ns : List ℕ) wh
       ∙ laid-more guids to (G n) (flat G ms)
       ∙ ap₂ (λ (x : List ℕ) (m : ℕ). laid x (to + m) (flat G ms)) (sym g) l
 
-  pub guids-none : ns ≡ [] → laid guids to (flat G ns) ≡ guids
+  pub guids-none : length ns ≤ 0 → laid guids to (flat G ns) ≡ guids
   unfolding flat laid
-  guids-none e = rw e
+  guids-none h = let e : ns ≡ [] = none-left ns h in rw e
 
 pub guid-length : (words : List ℕ) (list : Run) (n : ℕ) → Listed list words → n < list .count → length (guidOf words list n) ≡ GUID
 guid-length words list n f h = simp (length-take, length-drop) (omega (arith, f))

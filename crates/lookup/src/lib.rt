@@ -213,7 +213,7 @@ fn advance(
     requires { ⌜ spec.Stands (now words) (lists.runOf capacities counts (area.place area.TEMPLATES)) walk ⌝ }
     ensures { λ r. ⌜ spec.newOf (now (words .entry)) capacities counts (now (guid .entry)) (now (key .entry)) (now (marks .entry)) walk
         ≡ spec.stepped (now (words .entry)) capacities counts (now (guid .entry)) (now (key .entry)) (now (marks .exit)) r ⌝ }
-    ensures { λ r. ⌜ spec.onward (now (words .entry)) (lists.runOf capacities counts (area.place area.TEMPLATES)) walk r ⌝ }
+    ensures { λ r. ⌜ spec.onward (now (words .entry)) (lists.runOf capacities counts (area.place area.TEMPLATES)) r ⌝ }
 {
     let list = lists::run_of(capacities, counts, row::TEMPLATES);
     let mut events = walk.events;
@@ -276,7 +276,7 @@ fn count(
     n
 }
 
-// Stores the GUIDs that they give, each once.
+// Stores the GUIDs that they give, each once: so many.
 fn fill(
     words: &[u32],
     capacities: [u32; AREAS],
@@ -284,12 +284,13 @@ fn fill(
     walk: Walk,
     guid: &[u32],
     key: &[u32],
+    n: u32,
     guids: &mut [u32],
 )
     requires { ⌜ lists.Fit (now words) capacities counts × (right.tablesFit counts (right.entriesOf (now words) capacities counts area.TABLES) ≡ true) ⌝ }
     requires { ⌜ (length (now guid) ≡ entry.GUID) × (length (now key) ≡ entry.KEY) ⌝ }
     requires { ⌜ spec.Stands (now words) (lists.runOf capacities counts (area.place area.TEMPLATES)) walk ⌝ }
-    requires { ⌜ entry.GUID * length (spec.newOf (now words) capacities counts (now guid) (now key) spec.unset walk) ≤ length (now guids) ⌝ }
+    requires { ⌜ (n ≡ length (spec.newOf (now words) capacities counts (now guid) (now key) spec.unset walk)) × (entry.GUID * n ≤ length (now guids)) ⌝ }
     ensures { λ _. ⌜ now (guids .exit) ≡ laid (now (guids .entry)) 0 (flat (spec.guidOf (now (words .entry)) (lists.runOf capacities counts (area.place area.TEMPLATES)))
         (spec.newOf (now (words .entry)) capacities counts (now (guid .entry)) (now (key .entry)) spec.unset walk)) ⌝ }
 {
@@ -297,8 +298,9 @@ fn fill(
     let mut marks = [false; 65536];
     let mut at = walk;
     let mut to = 0;
-    loop {
-        let Step::Template(n, behind) = advance(
+    let mut left = n;
+    while 0 < left {
+        let Step::Template(t, behind) = advance(
             words,
             capacities,
             counts,
@@ -309,9 +311,10 @@ fn fill(
         ) else {
             return;
         };
-        words::put(guids, to, guid_of(words, list, n));
+        words::put(guids, to, guid_of(words, list, t));
         at = behind;
         to += GUID;
+        left -= 1;
     }
 }
 
@@ -356,7 +359,7 @@ fn give(
     if n == 0 {
         return GuidsFound::Given(0);
     }
-    fill(words, capacities, counts, walk, guid, &fields, guids);
+    fill(words, capacities, counts, walk, guid, &fields, n, guids);
     GuidsFound::Given(n)
 }
 

@@ -1,12 +1,11 @@
 -- The invariant: what is left decides.
 use Prim.{tt}
-use Prim.Native.Nat.{_≤_}
 use mathlib.Core.Path.{_≡_, refl, ap, sym, _∙_, subst}
 use Rattle.format.specs.Area.{TEMPLATES, place}
 use Rattle.lists.specs.Found.{runOf}
 use Rattle.lists.specs.declared.Run.{Run}
 use Rattle.lookup.specs.declared.Walk.{Walk}
-use Rattle.lookup.specs.Given.{Part, behind, Stands, ahead, newOf, tells-over, tells-template}
+use Rattle.lookup.specs.Given.{Part, behind, Stands, newOf, tells-over, tells-template}
 use Rattle.lookup.specs.ByKey.{come-to, come-to-none, came-to}
 use borrow.Author.Needs.{needs}
 use native.Mathlib.Omega.{arith}
@@ -19,7 +18,6 @@ at events templates providers = record { events = events; templates = templates;
 abbrev Inv-loop : tie.InvT-loop
 Inv-loop words capacities counts guid key marks₀ list events₀ templates₀ providers₀ marks events templates providers =
     Stands words (runOf capacities counts (place TEMPLATES)) (at events templates providers)
-    × (ahead (at events templates providers) ≤ ahead (at events₀ templates₀ providers₀))
     × (newOf words capacities counts guid key marks₀ (at events₀ templates₀ providers₀) ≡ newOf words capacities counts guid key marks (at events templates providers))
 
 abbrev μ-loop : tie.MeasureT-loop
@@ -31,7 +29,7 @@ run-of-requires c κs = search needs
 loop-holds : tie.Need-loop-holds Inv-loop μ-loop
 loop-holds c =
     let o = c .before .before .before .before .before .before .before in
-    (o .pre .1 .1, omega arith, refl)
+    (o .pre .1 .1, refl)
 
 next-new-requires : tie.Need-next-new-requires Inv-loop μ-loop
 next-new-requires c κs =
@@ -51,8 +49,8 @@ returns c =
     let a = r .before .before .before .before .args in
     let h = subst (behind (l .loop .events) (r .run-of .result)) (n .n .given .1) (x .next-new .ensures .1) in
     let i = l .loop .inv .0 in (
-      l .loop .inv .2 ∙ tells-template (a .words .now) (r .run-of .result) (l .loop .templates) (a .key .now) (l .loop .marks) (l .loop .events) _ _ (x .next-new .ensures .0) _ (r .run-of .ensures) _ _ _ (n .n .given .1),
-      (omega (arith, h .0, ap (λ (r : Run). r .count) (r .run-of .ensures)), ((omega (arith, h, i .0), omega (arith, h, i .0)), i .1, i .2), omega (arith, h, l .loop .inv .1)),
+      l .loop .inv .1 ∙ tells-template (a .words .now) (r .run-of .result) (l .loop .templates) (a .key .now) (l .loop .marks) (l .loop .events) _ _ (x .next-new .ensures .0) _ (r .run-of .ensures) _ _ _ (n .n .given .1),
+      (omega (arith, h .0, ap (λ (r : Run). r .count) (r .run-of .ensures)), ((omega (arith, h, i .0), omega (arith, h, i .0)), i .1, i .2)),
     )
 
 enum-told : tie.Need-enum-told Inv-loop μ-loop
@@ -78,7 +76,7 @@ returns-2 c =
     let l = x .before .before in
     let r = l .before .before .before .before in
     let a = r .before .before .before .before .args in
-    (l .loop .inv .2 ∙ tells-over (a .words .now) (r .run-of .result) (l .loop .templates) (a .key .now) (l .loop .marks) (l .loop .events) _ _ (x .next-new .ensures .0) _ (r .run-of .ensures) _ (e .enum-told .given .1) ∙ come-to-none (a .words .now) (a .capacities) (a .counts) (a .guid .now) (a .key .now) (l .loop .providers) _ (sym (f .find .ensures) ∙ c .enum-told2 .given .1), tt)
+    (l .loop .inv .1 ∙ tells-over (a .words .now) (r .run-of .result) (l .loop .templates) (a .key .now) (l .loop .marks) (l .loop .events) _ _ (x .next-new .ensures .0) _ (r .run-of .ensures) _ (e .enum-told .given .1) ∙ come-to-none (a .words .now) (a .capacities) (a .counts) (a .guid .now) (a .key .now) (l .loop .providers) _ (sym (f .find .ensures) ∙ c .enum-told2 .given .1), tt)
 
 come-to-requires : tie.Need-come-to-requires Inv-loop μ-loop
 come-to-requires c κs =
@@ -120,9 +118,9 @@ loop-again c =
     let a = o .args in
     let g = sym (f .find .ensures) ∙ p .p .given .1 in
     let h = came-to (a .words .now) (a .capacities) (a .counts) (o .pre .0 .0) (o .pre .0 .1) (a .guid .now) (l .loop .providers) (l .loop .inv .0 .2) _ g in
-    let n = l .loop .inv .2 ∙ tells-over (a .words .now) (r .run-of .result) (l .loop .templates) (a .key .now) (l .loop .marks) (l .loop .events) _ _ (x .next-new .ensures .0) _ (r .run-of .ensures) _ (e .enum-told .given .1) ∙ come-to (a .words .now) (a .capacities) (a .counts) (a .guid .now) (a .key .now) (l .loop .providers) _ _ g in
-    subst (λ (w : Walk). Stands (a .words .now) (runOf (a .capacities) (a .counts) (place TEMPLATES)) w × (ahead w ≤ ahead (a .walk)) × (newOf (a .words .now) (a .capacities) (a .counts) (a .guid .now) (a .key .now) (a .marks .now) (a .walk) ≡ newOf (a .words .now) (a .capacities) (a .counts) (a .guid .now) (a .key .now) (x .next-new .last .1 .1 .1 .1 .1 .0) w))
-    (sym (c .before .before .before .come-to .ensures)) (h .1, omega (arith, h .2, h .1 .0 .1, l .loop .inv .1), n)
+    let n = l .loop .inv .1 ∙ tells-over (a .words .now) (r .run-of .result) (l .loop .templates) (a .key .now) (l .loop .marks) (l .loop .events) _ _ (x .next-new .ensures .0) _ (r .run-of .ensures) _ (e .enum-told .given .1) ∙ come-to (a .words .now) (a .capacities) (a .counts) (a .guid .now) (a .key .now) (l .loop .providers) _ _ g in
+    subst (λ (w : Walk). Stands (a .words .now) (runOf (a .capacities) (a .counts) (place TEMPLATES)) w × (newOf (a .words .now) (a .capacities) (a .counts) (a .guid .now) (a .key .now) (a .marks .now) (a .walk) ≡ newOf (a .words .now) (a .capacities) (a .counts) (a .guid .now) (a .key .now) (x .next-new .last .1 .1 .1 .1 .1 .0) w))
+    (sym (c .before .before .before .come-to .ensures)) (h .1, n)
 
 pub advance-spec : {M : Type 1} → statement M
 advance-spec =

@@ -47,7 +47,8 @@ fill-requires c κs =
     let list = runOf (a .capacities) (a .counts) (place TEMPLATES) in
     let m = length-map ns (guidOf (a .words .now) list) in
     let e = i .before .count .ensures ∙ ap (λ n. min n (length (a .guids .now) / GUID + 1)) (sym m) in
-    (o .pre .0, ((o .pre .1 .0 .0, omega arith), (o .pre .1 .1, omega (arith, m, give-all (guidsFrom (a .words .now) (a .capacities) (a .counts) (a .guid .now) (keyWords (a .k)) (a .walk)) (a .guids .now) _ e (i .if1 .left) .2))))
+    let g = give-all (guidsFrom (a .words .now) (a .capacities) (a .counts) (a .guid .now) (keyWords (a .k)) (a .walk)) (a .guids .now) _ e (i .if1 .left) in
+    (o .pre .0, ((o .pre .1 .0 .0, omega arith), (o .pre .1 .1, (g .1 ∙ m, omega (arith, g .1, g .2)))))
 
 returns-3 : tie.Need-returns-3
 returns-3 c =

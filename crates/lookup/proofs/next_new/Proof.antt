@@ -54,7 +54,7 @@ returns c =
     let t = i .before .loop-test .taken in
     let m = c .mark .ensures ∙ ap (λ u. marked (a .words .now) (a .list) u (l .loop .marks)) (g .guid-of .ensures) in (
       λ others. l .loop .inv .1 others ∙ next-give (a .words .now) (a .list) (a .templates) (a .key .now) (l .loop .marks) (a .events .start) _ _ (i .entry-at .result) t (i .entry-at .ensures) others _ _ (sym (f .fresh .ensures) ∙ n .n .given .1) m,
-      (omega (arith, o .pre .1, next-below (a .words .now) (a .templates) (a .key .now) (l .loop .marks) (i .entry-at .result) _ (sym (f .fresh .ensures) ∙ n .n .given .1)), omega (arith, t, l .loop .inv .0), refl, omega (arith, t, l .loop .inv .0)),
+      (omega (arith, o .pre .1, next-below (a .words .now) (a .templates) (a .key .now) (l .loop .marks) (i .entry-at .result) _ (sym (f .fresh .ensures) ∙ n .n .given .1)), refl, omega (arith, t, l .loop .inv .0)),
     )
 
 enum-told : tie.Need-enum-told Inv-loop μ-loop
