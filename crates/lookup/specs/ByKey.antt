@@ -18,13 +18,13 @@ use Rattle.format.specs.Entry.{GUID, EVENT-TEMPLATE}
 use Rattle.format.specs.Table.{EVNT, TTBL}
 use Rattle.format.specs.Lists.{Entry, guidWords}
 use Rattle.format.specs.Answer.{own, lent-enough}
-use Rattle.format.specs.Lookup.{entriesFrom, entriesOf, wordOf, select, position, positions, counts-fit, tablesFit, once, keyed, keyWords, guidAtOffset, guidsOfProvider, guidsOf, byKey, guidsFound, guidsHeld}
+use Rattle.format.specs.Lookup.{entriesOf, wordOf, select, position, positions, counts-fit, tablesFit, once, keyed, keyWords, guidAtOffset, guidsOfProvider, guidsOf, byKey, guidsFound, guidsHeld}
 use Rattle.format.specs.declared.GuidsFound.the-variants as guids
 use Rattle.format.specs.declared.Key.{Key}
 use Rattle.lists.specs.declared.Found.{Found}
 use Rattle.lists.specs.declared.Found.the-variants as founds
 use Rattle.lists.specs.declared.Run.{Run}
-use Rattle.lists.specs.Fit.{refused-as, inside, whole-few, whole-entries}
+use Rattle.lists.specs.Fit.{refused-as, inside, whole-entries}
 use Rattle.lists.specs.Found.{entries, few, runOf, behind, has, found, fitTogether, Fit, owned}
 use Rattle.lists.specs.Search.{and-true, positions-none, run-positions}
 use Rattle.lists.specs.Tables.{owned-entries}

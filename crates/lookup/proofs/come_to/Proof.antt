@@ -5,7 +5,6 @@ use Rattle.format.specs.Table.{EVNT}
 use Rattle.lists.specs.Found.{owned}
 use Rattle.lists.specs.declared.Run.{Run}
 use Rattle.lookup.specs.declared.Walk.{Walk}
-use native.Mathlib.Omega.{arith}
 use Rattle.lookup.proofs.come_to.Statement.{statement}
 use Rattle.lookup.proofs.come_to.Tie as tie
 

@@ -1,6 +1,6 @@
 -- The invariant: those that are left are the ones that are not counted yet.
 use Prim.Native.Nat.{_+_, _-_, _≤_}
-use mathlib.Core.Path.{_≡_, ap, sym, _∙_, subst}
+use mathlib.Core.Path.{_≡_, ap, _∙_, subst}
 use lib.ListN.{length}
 use Rattle.format.specs.Area.{TEMPLATES, place}
 use Rattle.lists.specs.Found.{runOf}
