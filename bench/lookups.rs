@@ -52,17 +52,23 @@ impl Lists {
         answer[4]
     }
 
-    /// Gives every EVNT and every TTBL the whole of its list, as no reading does.
+    /// Gives every EVNT and every TTBL the whole of its list, as no reading does; but only the last
+    /// EVNT has the last event.
     fn share(&mut self) {
         let before = List::all().take_while(|&list| list != List::Tables);
         let start = before.map(|list| list.words() * self.counts.of(list) as usize);
         let start: usize = start.sum();
         let length = List::Tables.words();
         let [events, templates] = [List::Events, List::Templates].map(|list| self.counts.of(list));
+        let last = self.counts.of(List::Providers) - 1;
         for table in 0..self.counts.of(List::Tables) as usize {
             let table = &mut self.words[start + length * table..][..length];
             table[5] = 0;
-            table[6] = if table[1] == 2 { events } else { templates };
+            table[6] = match table[1] {
+                2 if table[0] < last => events - 1,
+                2 => events,
+                _ => templates,
+            };
         }
     }
 }
@@ -87,39 +93,48 @@ fn block(providers: u32, events: u32, templates: u32) -> Vec<u8> {
     closed(w, providers, |_| wevt)
 }
 
-/// Providers of one GUID with so many events and templates each, all events with one key: the first
-/// names the first template, and the others one that is not there.
+/// Providers of one GUID with so many events and templates each, all events with one key and with
+/// the offset of no template; but the last event of the last provider has one.
 fn hostile(providers: u32, events: u32, templates: u32) -> Vec<u8> {
     let mut w = Writer::new(providers);
-    let elements = hostile_tables(&mut w, events, templates);
-    let wevt = w.wevt(&elements, 0);
-    closed(w, providers, |_| wevt)
+    let [others, last] = [false, true].map(|found| {
+        let elements = hostile_tables(&mut w, events, templates, found);
+        w.wevt(&elements, 0)
+    });
+    closed(w, providers, |provider| {
+        if provider + 1 < providers {
+            others
+        } else {
+            last
+        }
+    })
 }
 
-fn hostile_tables(w: &mut Writer, events: u32, templates: u32) -> [u32; 2] {
+fn hostile_tables(w: &mut Writer, events: u32, templates: u32, found: bool) -> [u32; 2] {
     let [evnt, ttbl] = [w.events(events), w.templates(templates, 0)];
     for event in 0..events {
         let record = evnt + 16 + 48 * event;
+        let found = found && event + 1 == events;
         w.set(record, 0);
-        w.set(record + 20, if event == 0 { ttbl + 12 } else { NOWHERE });
+        w.set(record + 20, if found { ttbl + 12 } else { NOWHERE });
     }
     [evnt, ttbl]
 }
 
-/// Providers of one GUID, the first with an event and its template, the others with neither but with
+/// Providers of one GUID, the last with an event and its template, the others with neither but with
 /// another table.
 fn hostile_providers(providers: u32) -> Vec<u8> {
     let mut w = Writer::new(providers);
-    let elements = hostile_tables(&mut w, 1, 1);
+    let elements = hostile_tables(&mut w, 1, 1, true);
     let levels = w.levels(std::iter::empty());
-    let [first, others] = [w.wevt(&elements, 0), w.wevt(&[levels], 0)];
-    closed(
-        w,
-        providers,
-        |provider| {
-            if provider == 0 { first } else { others }
-        },
-    )
+    let [others, last] = [w.wevt(&[levels], 0), w.wevt(&elements, 0)];
+    closed(w, providers, |provider| {
+        if provider + 1 < providers {
+            others
+        } else {
+            last
+        }
+    })
 }
 
 /// The whole block, each provider with the GUID and with its WEVT.
