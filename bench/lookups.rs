@@ -32,7 +32,7 @@ impl Lists {
         Lists {
             words,
             counts,
-            guids: vec![0; 4 * raw::GUID_WORDS],
+            guids: vec![0; raw::GUID_WORDS * counts.of(List::Templates) as usize],
         }
     }
 
@@ -119,6 +119,20 @@ fn hostile_tables(w: &mut Writer, events: u32, templates: u32, found: bool) -> [
         w.set(record + 20, if found { ttbl + 12 } else { NOWHERE });
     }
     [evnt, ttbl]
+}
+
+/// A provider with so many events and templates, all events with one key: the first has the last
+/// template, the next the one before it. No two templates have one GUID.
+fn given(each: u32) -> Vec<u8> {
+    let mut w = Writer::new(1);
+    let [evnt, ttbl] = [w.events(each), w.templates(each, 0)];
+    for event in 0..each {
+        let record = evnt + 16 + 48 * event;
+        w.set(record, 0);
+        w.set(record + 20, ttbl + 12 + 40 * (each - 1 - event));
+    }
+    let wevt = w.wevt(&[evnt, ttbl], 0);
+    closed(w, 1, |_| wevt)
 }
 
 /// Providers of one GUID, the last with an event and its template, the others with neither but with
@@ -217,11 +231,15 @@ pub fn hostile_lists() {
     println!("|---|--:|--:|--:|");
     for each in [2048_u32, 16_384] {
         let mut lists = Lists::read(&hostile(1, each, each));
-        row("events × templates", &[each, each], &mut lists);
+        row("events × templates", &[each, each], 1, &mut lists);
+    }
+    for each in [2048_u32, 16_384] {
+        let mut lists = Lists::read(&given(each));
+        row("GUIDs × templates", &[each, each], each, &mut lists);
     }
     for providers in [4096_u32, 32_768] {
         let mut lists = Lists::read(&hostile_providers(providers));
-        row("providers × tables", &[providers; 2], &mut lists);
+        row("providers × tables", &[providers; 2], 1, &mut lists);
     }
     for (providers, each) in [(16_u32, 64), (64, 64)] {
         let mut lists = Lists::read(&hostile(providers, each, each));
@@ -230,20 +248,21 @@ pub fn hostile_lists() {
         row(
             "providers × events × templates",
             &[providers, all, all],
+            1,
             &mut lists,
         );
     }
     println!();
 }
 
-/// The least time of half a second's lookups, or of one that takes longer.
-fn row(name: &str, factors: &[u32], lists: &mut Lists) {
+/// The least time of half a second's lookups, or of one that takes longer; so many GUIDs are given.
+fn row(name: &str, factors: &[u32], given: u32, lists: &mut Lists) {
     let key = key(GUID, 0);
     let mut least = f64::INFINITY;
     let start = Instant::now();
     while least.is_infinite() || start.elapsed().as_millis() < 500 {
         let began = Instant::now();
-        assert_eq!(lists.look_up(&key), 1);
+        assert_eq!(lists.look_up(&key), u64::from(given));
         least = least.min(began.elapsed().as_nanos() as f64);
     }
     let product: f64 = factors.iter().copied().map(f64::from).product();

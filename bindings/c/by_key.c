@@ -106,7 +106,8 @@ static void by_providers(struct lists *l) {
     put_template(l, 3, 400, 71);
     check(found(l, 8, 2, 72, 71, 0), "a GUID of both once");
     put_template(l, 3, 400, 74);
-    put_event(l, 3, 1001, 100);
+    put_template(l, 2, 300, 73);
+    put_event(l, 3, 1001, 300);
     check(found(l, 8, 2, 72, 71, 0), "an event that names the other provider's template");
     put_table(l, 2, 1, DUCAT_EVNT, 0, 3);
     put_template(l, 3, 100, 74);

@@ -39,13 +39,13 @@ impl<'a> Accepted<'a> {
 
     /// What it would be with one provider alone, for each provider.
     pub fn apart(&self) -> Vec<BTreeMap<Key, Vec<Words>>> {
+        let mut alone = self.manifest.clone();
         let providers = self.manifest.providers.iter();
-        let alone = providers.map(|provider| {
-            let mut manifest = self.manifest.clone();
-            manifest.providers = vec![provider.clone()];
-            index(&manifest)
+        let each = providers.map(|provider| {
+            alone.providers = vec![provider.clone()];
+            index(&alone)
         });
-        alone.collect()
+        each.collect()
     }
 
     /// The first provider with a GUID.

@@ -64,9 +64,7 @@ impl Totals {
             *mine += theirs;
         }
     }
-}
 
-impl Totals {
     /// A key with so many templates, by what each provider alone gives.
     fn add_repeated(
         &mut self,
@@ -150,7 +148,8 @@ impl Joiner {
             self.totals.given += u64::from(!guids.is_empty());
             self.totals.several += u64::from(guids.len() > 1);
             if !apart.is_empty() && !guids.is_empty() {
-                self.totals.add_repeated(&accepted, &apart, &key, guids.len());
+                self.totals
+                    .add_repeated(&accepted, &apart, &key, guids.len());
             }
         }
         self.by_offsets(lists, found, &accepted, rng)?;

@@ -42,19 +42,21 @@ pub fn blob(rng: &mut Rng) -> Vec<u8> {
     draft.bytes
 }
 
-/// Providers with as many events or templates as a list can have room for, or with many of both: one,
-/// or up to four of one GUID that share them.
+/// As many events or templates as a list can have room for, or many of both: of one provider, or
+/// divided among up to four of one GUID.
 pub fn large(rng: &mut Rng) -> Vec<u8> {
     let mut draft = Draft::new(1);
     let providers = rng.between(1, 4);
     head(&mut draft, rng, providers);
     let (events, templates) = rng.pick(&[(300, 65_536), (300, 65_535), (2000, 2000), (65_536, 40)]);
-    let numbers = Numbers {
-        events: events / providers,
-        templates: templates / providers,
-        keys: 16,
-    };
     for i in 0..providers {
+        // The first has what is left over.
+        let share = |all| all / providers + if i == 0 { all % providers } else { 0 };
+        let numbers = Numbers {
+            events: share(events),
+            templates: share(templates),
+            keys: 16,
+        };
         let (wevt, _) = provider(&mut draft, rng, &numbers, Vec::new());
         let word = draft.providers[i];
         draft.set(word, wevt);

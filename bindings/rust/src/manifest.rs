@@ -143,7 +143,7 @@ impl<'a> Manifest<'a> {
 
     /// The GUIDs of the templates of the events with a key, each once, in first-seen order; none
     /// if there is no such event, or none with a template. All providers with the key's GUID are
-    /// gone through, in their order, and each event is looked for in its own provider's templates.
+    /// gone through, in their order; an event's template is looked for in its own provider's alone.
     ///
     /// The library keeps a mark for each template: about 70 KB of stack are used.
     pub fn templates_for(&self, key: &Key) -> Result<Vec<Guid>, Refusal> {

@@ -177,7 +177,8 @@ fn next_new(
     Next::Over
 }
 
-// At a provider, by its number; behind it come those of some providers that are behind it.
+// Where the lookup stands when it comes to a provider, by its number: the provider's events, its templates, and those of some providers
+// that are behind it.
 fn come_to(
     words: &[u32],
     capacities: [u32; AREAS],
