@@ -122,14 +122,16 @@ fn hostile_tables(w: &mut Writer, events: u32, templates: u32, found: bool) -> [
 }
 
 /// A provider with so many events and templates, all events with one key: the first has the last
-/// template, the next the one before it. No two templates have one GUID.
+/// template, the next the one before it. The GUIDs differ in the last word alone.
 fn given(each: u32) -> Vec<u8> {
     let mut w = Writer::new(1);
     let [evnt, ttbl] = [w.events(each), w.templates(each, 0)];
     for event in 0..each {
-        let record = evnt + 16 + 48 * event;
+        let (record, temp) = (evnt + 16 + 48 * event, ttbl + 12 + 40 * (each - 1 - event));
         w.set(record, 0);
-        w.set(record + 20, ttbl + 12 + 40 * (each - 1 - event));
+        w.set(record + 20, temp);
+        w.set(temp + 24, 1);
+        w.set(temp + 36, event);
     }
     let wevt = w.wevt(&[evnt, ttbl], 0);
     closed(w, 1, |_| wevt)
