@@ -25,10 +25,12 @@ use Rattle.lists.specs.declared.Found.{Found}
 use Rattle.lists.specs.declared.Found.the-variants as founds
 use Rattle.lists.specs.declared.Run.{Run}
 use Rattle.lists.specs.Fit.{refused-as, inside, whole-entries}
-use Rattle.lists.specs.Found.{entries, few, runOf, behind, has, found, fitTogether, Fit, owned}
-use Rattle.lists.specs.Search.{and-true, positions-none, run-positions}
+use Rattle.lists.specs.Found.{entries, few, runOf, has, found, fitTogether, Fit, owned}
+use Rattle.lists.specs.Search.{and-true, told, position-single, positions-none, run-positions}
 use Rattle.lists.specs.Tables.{owned-entries}
-use Rattle.lookup.specs.Given.{Part, guidOf, firsts, unset, Stands, cameTo, numbersFrom, numbersOfAll, newOf, guidsFrom, roomFor}
+use Rattle.lookup.specs.declared.Came.{Came}
+use Rattle.lookup.specs.declared.Came.the-variants as cames
+use Rattle.lookup.specs.Given.{Part, guidOf, firsts, unset, cameTo, came, nextProvider, arrived, numbersFrom, numbersOfAll, newAt, roomFor}
 use Rattle.lookup.specs.Once.{keyed-guids, numbers-below, given-once}
 
 and-false : (b : Bool) → (b && false) ≡ false
@@ -53,22 +55,22 @@ module _ (words capacities counts : List ℕ) (key : Key) (lent : List ℕ) wher
   key-room h f t = rw (f .0, le-leb _ _ h, f .1, t)
 
 -- Where no event is left, the next provider decides: its events come next; where there is none, it is over.
-module _ (words capacities counts guid key : List ℕ) (providers : Run) where
-  abbrev searched : Found
-  searched = found (position (has 0 guid) (providers .first) (entries (width PROVIDERS) providers words))
+module _ (words capacities counts guid key : List ℕ) (providers : Run) (marks : List Bool) where
+  abbrev left : List ℕ
+  left = firsts words (runOf capacities counts (place TEMPLATES)) marks (numbersOfAll words capacities counts guid key providers)
 
-  abbrev left : List Bool → List ℕ
-  left marks = firsts words (runOf capacities counts (place TEMPLATES)) marks (numbersOfAll words capacities counts guid key providers)
+  abbrev searched : List ℕ
+  searched = position (has 0 guid) (providers .first) (entries (width PROVIDERS) providers words)
 
-  pub come-to : (marks : List Bool) (p : ℕ) → searched ≡ founds.Number p → left marks ≡ newOf words capacities counts guid key marks (cameTo words capacities counts providers p)
-  unfolding flat
-  come-to marks p e =
-      ap (λ (ps : List ℕ). firsts words (runOf capacities counts (place TEMPLATES)) marks (flat (λ n. numbersFrom words capacities counts guid key n) ps))
-      (run-positions (has 0 guid) words (width PROVIDERS) providers p e .0)
-
-  pub come-to-none : (marks : List Bool) → searched ≡ founds.Nothing → left marks ≡ []
+  pub come-to : left ≡ newAt words capacities counts guid key marks (nextProvider words capacities counts guid providers)
   unfolding flat firsts
-  come-to-none marks e = rw (positions-none (has 0 guid) (providers .first) (entries (width PROVIDERS) providers words) e)
+  come-to = rw (position-single (has 0 guid) (providers .first) (entries (width PROVIDERS) providers words)) (go (found searched) refl)
+    where
+      go : (f : Found) → found searched ≡ f → left ≡ newAt words capacities counts guid key marks (came words capacities counts providers (told f))
+      go founds.Nothing e = rw (positions-none (has 0 guid) (providers .first) (entries (width PROVIDERS) providers words) e)
+      go (founds.Number p) e =
+          ap (λ (ps : List ℕ). firsts words (runOf capacities counts (place TEMPLATES)) marks (flat (λ n. numbersFrom words capacities counts guid key n) ps))
+          (run-positions (has 0 guid) words (width PROVIDERS) providers p e .0)
 
 -- over lists that fit together: a provider's events and templates stand in the words
 module _ (words capacities counts : List ℕ) (f : Fit words capacities counts) (t : tablesFit counts (entriesOf words capacities counts TABLES) ≡ true) where
@@ -89,12 +91,10 @@ module _ (words capacities counts : List ℕ) (f : Fit words capacities counts) 
   -- where the lookup stands, at a provider that was found
   pub came-to : (guid : List ℕ) (providers : Run) → few (width PROVIDERS) providers words → (p : ℕ)
       → found (position (has 0 guid) (providers .first) (entries (width PROVIDERS) providers words)) ≡ founds.Number p
-      → (p < providers .first + providers .count)
-      × Stands words list (cameTo words capacities counts providers p)
-      × (behind providers p .count < providers .count)
+      → (p < providers .first + providers .count) × arrived words list providers (cames.To (cameTo words capacities counts providers p))
   came-to guid providers s p e =
       let r = run-positions (has 0 guid) words (width PROVIDERS) providers p e in
-      (omega (arith, r .2), (events-in p, templates-in p, (omega (arith, r .1, r .2, s), omega (arith, r .1, r .2, s))), omega (arith, r .1, r .2))
+      (omega (arith, r .2), ((events-in p, templates-in p, (omega (arith, r .1, r .2, s), omega (arith, r .1, r .2, s))), omega (arith, r .1, r .2)))
 
   -- what the events of some providers give is in list 9, and the GUIDs are the definition's
   module _ (key : Key) where
@@ -129,16 +129,14 @@ module _ (words capacities counts : List ℕ) (f : Fit words capacities counts) 
         ∙ ap (once []) (guids-from-all ps)
         ∙ sym (given-once words list (inside words capacities counts f (place TEMPLATES)) (flat from ps) (below-all ps))
 
-    -- by the first provider that was found, or none
-    abbrev first-found : Found
-    first-found = found (position (has 0 (guidWords (key .guid))) 0 (entries (width PROVIDERS) (runOf capacities counts (place PROVIDERS)) words))
-
-    pub key-found : (p : ℕ) → first-found ≡ founds.Number p
-        → guidsOf words capacities counts key ≡ guidsFrom words capacities counts (guidWords (key .guid)) (keyWords key) (cameTo words capacities counts (runOf capacities counts (place PROVIDERS)) p)
-    key-found p e = all-given ∙ ap (map (guidOf words list)) (come-to words capacities counts (guidWords (key .guid)) (keyWords key) (runOf capacities counts (place PROVIDERS)) unset p e)
-
-    pub key-none : first-found ≡ founds.Nothing → guidsOf words capacities counts key ≡ []
-    key-none e = all-given ∙ ap (map (guidOf words list)) (come-to-none words capacities counts (guidWords (key .guid)) (keyWords key) (runOf capacities counts (place PROVIDERS)) unset e)
+    -- by the first provider that was come to, or none
+    pub key-given : (c : Came) → nextProvider words capacities counts (guidWords (key .guid)) (runOf capacities counts (place PROVIDERS)) ≡ c
+        → guidsOf words capacities counts key ≡ map (guidOf words list) (newAt words capacities counts (guidWords (key .guid)) (keyWords key) unset c)
+    key-given c e =
+        all-given
+        ∙ ap (map (guidOf words list))
+        (come-to words capacities counts (guidWords (key .guid)) (keyWords key) (runOf capacities counts (place PROVIDERS)) unset
+        ∙ ap (newAt words capacities counts (guidWords (key .guid)) (keyWords key) unset) e)
 
 -- where nothing is given, there is room
 pub given-none : (lent : List ℕ) (gs : List Entry) → length gs ≤ 0 → (guids.Given 0 ≡ guidsFound (roomFor lent gs)) × (lent ≡ guidsHeld lent (roomFor lent gs))

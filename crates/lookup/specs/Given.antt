@@ -17,7 +17,7 @@ use Rattle.format.specs.Entry.{GUID, KEY, EVENT-TEMPLATE, TEMPLATE-GUID}
 use Rattle.format.specs.Table.{EVNT, TTBL}
 use Rattle.format.specs.Answer.{too-small}
 use Rattle.format.specs.Lists.{Entry}
-use Rattle.format.specs.Lookup.{entriesFrom, wordOf, alike, positions}
+use Rattle.format.specs.Lookup.{entriesFrom, wordOf, alike, position, positions}
 use Rattle.format.specs.declared.TemplateFound.{TemplateFound}
 use Rattle.format.specs.declared.TemplateFound.the-variants as template
 use Rattle.lists.specs.declared.Found.{Found}
@@ -30,6 +30,8 @@ use Rattle.lists.specs.Search.{told as single, nothing-found, same-found, posit
 use Rattle.lookup.specs.declared.Next.{Next}
 use Rattle.lookup.specs.declared.Next.the-variants as nexts
 use Rattle.lookup.specs.declared.Walk.{Walk}
+use Rattle.lookup.specs.declared.Came.{Came}
+use Rattle.lookup.specs.declared.Came.the-variants as cames
 use Rattle.lookup.specs.declared.Step.{Step}
 use Rattle.lookup.specs.declared.Step.the-variants as steps
 
@@ -110,6 +112,20 @@ abbrev pub cameTo : List ℕ → List ℕ → List ℕ → Run → ℕ → Walk
 cameTo words capacities counts providers p =
     record { events = owned words capacities counts p EVNT; templates = owned words capacities counts p TTBL; providers = lists.behind providers p }
 
+-- by the number that is found; none or one
+abbrev pub came : List ℕ → List ℕ → List ℕ → Run → List ℕ → Came
+came words capacities counts providers [] = cames.Nowhere
+came words capacities counts providers (p ∷ ps) = cames.To (cameTo words capacities counts providers p)
+
+abbrev pub nextProvider : List ℕ → List ℕ → List ℕ → List ℕ → Run → Came
+nextProvider words capacities counts guid providers =
+    came words capacities counts providers (position (has 0 guid) (providers .first) (entries (width PROVIDERS) providers words))
+
+-- it stands there, with fewer providers behind it
+abbrev pub arrived : List ℕ → Run → Run → Came → Type 0
+arrived words list providers cames.Nowhere = Unit
+arrived words list providers (cames.To w) = Stands words list w × (w .providers .count < providers .count)
+
 module _ (words capacities counts guid key : List ℕ) where
   -- the numbers of the templates that a provider's events give, in its own templates
   abbrev pub numbersFrom : ℕ → List ℕ
@@ -125,6 +141,11 @@ module _ (words capacities counts guid key : List ℕ) where
   -- those of them whose GUID is new
   abbrev pub newOf : List Bool → Walk → List ℕ
   newOf marks w = firsts words (runOf capacities counts (place TEMPLATES)) marks (numbersLeft w)
+
+  -- of what there is at a provider that was come to
+  abbrev pub newAt : List Bool → Came → List ℕ
+  newAt marks cames.Nowhere = []
+  newAt marks (cames.To w) = newOf marks w
 
   -- the GUIDs that are given, where none was before, each once
   abbrev pub guidsFrom : Walk → List Entry

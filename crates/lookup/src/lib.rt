@@ -41,6 +41,12 @@ pub struct Walk {
     pub providers: Run,
 }
 
+// A provider that the lookup came to, if there is one.
+pub enum Came {
+    To(Walk),
+    Nowhere,
+}
+
 // The next of all events that does so, and where the lookup stands behind it.
 pub enum Step {
     Template(u32, Walk),
@@ -177,26 +183,31 @@ fn next_new(
     Next::Over
 }
 
-// Where the lookup stands when it comes to a provider, by its number: the provider's events, its templates, and those of some providers
-// that are behind it.
-fn come_to(
+// Where the lookup stands when it comes to the first of some providers that has a GUID: that one's events, its templates, and those of the
+// providers that are behind it.
+fn next_provider(
     words: &[u32],
     capacities: [u32; AREAS],
     counts: [u32; AREAS],
     providers: Run,
-    p: u32,
-) -> Walk
-    requires { ⌜ lists.Fit (now words) capacities counts × (p < providers .first + providers .count) × (providers .first + providers .count ≤ 65536) ⌝ }
-    ensures { λ r. ⌜ r ≡ spec.cameTo (now (words .entry)) capacities counts providers p ⌝ }
+    guid: &[u32],
+) -> Came
+    requires { ⌜ lists.Fit (now words) capacities counts × (right.tablesFit counts (right.entriesOf (now words) capacities counts area.TABLES) ≡ true) ⌝ }
+    requires { ⌜ (length (now guid) ≡ entry.GUID) × lists.few (area.width area.PROVIDERS) providers (now words) ⌝ }
+    ensures { λ r. ⌜ r ≡ spec.nextProvider (now (words .entry)) capacities counts (now (guid .entry)) providers ⌝ }
+    ensures { λ r. ⌜ spec.arrived (now (words .entry)) (lists.runOf capacities counts (area.place area.TEMPLATES)) providers r ⌝ }
 {
+    let Found::Number(p) = lists::find(words, providers, row::PROVIDERS, 0, guid) else {
+        return Came::Nowhere;
+    };
     let events = lists::owned(words, capacities, counts, p, kind::EVNT);
     let templates = lists::owned(words, capacities, counts, p, kind::TTBL);
     let behind = lists::behind(providers, p);
-    Walk {
+    Came::To(Walk {
         events,
         templates,
         providers: behind,
-    }
+    })
 }
 
 // The next of the events that are left, of all providers with a GUID in their order, that gives a GUID which is not marked.
@@ -231,10 +242,9 @@ fn advance(
                 },
             );
         }
-        let Found::Number(p) = lists::find(words, providers, row::PROVIDERS, 0, guid) else {
+        let Came::To(next) = next_provider(words, capacities, counts, providers, guid) else {
             return Step::Over;
         };
-        let next = come_to(words, capacities, counts, providers, p);
         events = next.events;
         templates = next.templates;
         providers = next.providers;
@@ -383,9 +393,8 @@ pub fn templates_for(
     let g = key.guid;
     let guid = [g.a, g.b, g.c, g.d];
     let providers = lists::run_of(capacities, counts, row::PROVIDERS);
-    let Found::Number(p) = lists::find(words, providers, row::PROVIDERS, 0, &guid) else {
+    let Came::To(walk) = next_provider(words, capacities, counts, providers, &guid) else {
         return GuidsFound::Given(0);
     };
-    let walk = come_to(words, capacities, counts, providers, p);
     give(words, capacities, counts, walk, &guid, key, guids)
 }

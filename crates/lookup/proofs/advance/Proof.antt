@@ -5,8 +5,8 @@ use Rattle.format.specs.Area.{TEMPLATES, place}
 use Rattle.lists.specs.Found.{runOf}
 use Rattle.lists.specs.declared.Run.{Run}
 use Rattle.lookup.specs.declared.Walk.{Walk}
-use Rattle.lookup.specs.Given.{Part, behind, Stands, newOf, tells-over, tells-template}
-use Rattle.lookup.specs.ByKey.{come-to, come-to-none, came-to}
+use Rattle.lookup.specs.Given.{Part, behind, Stands, arrived, newOf, newAt, tells-over, tells-template}
+use Rattle.lookup.specs.ByKey.{come-to}
 use borrow.Author.Needs.{needs}
 use native.Mathlib.Omega.{arith}
 use Rattle.lookup.proofs.advance.Statement.{statement}
@@ -56,14 +56,14 @@ returns c =
 enum-told : tie.Need-enum-told Inv-loop μ-loop
 enum-told c = search needs
 
-find-requires : tie.Need-find-requires Inv-loop μ-loop
-find-requires c κs =
+next-provider-requires : tie.Need-next-provider-requires Inv-loop μ-loop
+next-provider-requires c κs =
     let l = c .before .before .before .before in
     let o = l .before .before .before .before .before .before .before .before in
-    ((omega arith, omega (arith, o .pre .1 .0 .0)), l .loop .inv .0 .2)
+    (o .pre .0, (o .pre .1 .0 .0, l .loop .inv .0 .2))
 
-enum-known-p : tie.Need-enum-known-p Inv-loop μ-loop
-enum-known-p c = search needs
+enum-known-next : tie.Need-enum-known-next Inv-loop μ-loop
+enum-known-next c = search needs
 
 enum-told-2 : tie.Need-enum-told-2 Inv-loop μ-loop
 enum-told-2 c = search needs
@@ -76,51 +76,27 @@ returns-2 c =
     let l = x .before .before in
     let r = l .before .before .before .before in
     let a = r .before .before .before .before .args in
-    (l .loop .inv .1 ∙ tells-over (a .words .now) (r .run-of .result) (l .loop .templates) (a .key .now) (l .loop .marks) (l .loop .events) _ _ (x .next-new .ensures .0) _ (r .run-of .ensures) _ (e .enum-told .given .1) ∙ come-to-none (a .words .now) (a .capacities) (a .counts) (a .guid .now) (a .key .now) (l .loop .providers) _ (sym (f .find .ensures) ∙ c .enum-told2 .given .1), tt)
-
-come-to-requires : tie.Need-come-to-requires Inv-loop μ-loop
-come-to-requires c κs =
-    let p = c .before in
-    let f = p .before .before in
-    let e = f .before in
-    let x = e .before .before in
-    let l = x .before .before in
-    let r = l .before .before .before .before in
-    let o = r .before .before .before .before in
-    let a = o .args in
-    let g = sym (f .find .ensures) ∙ p .p .given .1 in
-    let h = came-to (a .words .now) (a .capacities) (a .counts) (o .pre .0 .0) (o .pre .0 .1) (a .guid .now) (l .loop .providers) (l .loop .inv .0 .2) _ g in
-    (o .pre .0 .0, h .0, l .loop .inv .0 .2 .1)
+    (l .loop .inv .1 ∙ tells-over (a .words .now) (r .run-of .result) (l .loop .templates) (a .key .now) (l .loop .marks) (l .loop .events) _ _ (x .next-new .ensures .0) _ (r .run-of .ensures) _ (e .enum-told .given .1) ∙ come-to (a .words .now) (a .capacities) (a .counts) (a .guid .now) (a .key .now) (l .loop .providers) _ ∙ ap (newAt (a .words .now) (a .capacities) (a .counts) (a .guid .now) (a .key .now) _) (sym (f .next-provider .ensures .0) ∙ c .enum-told2 .given .1), tt)
 
 loop-less : tie.Need-loop-less Inv-loop μ-loop
 loop-less c =
-    let p = c .before .before .before .before .before in
-    let f = p .before .before in
-    let e = f .before in
-    let x = e .before .before in
-    let l = x .before .before in
-    let r = l .before .before .before .before in
-    let o = r .before .before .before .before in
-    let a = o .args in
-    let g = sym (f .find .ensures) ∙ p .p .given .1 in
-    let h = came-to (a .words .now) (a .capacities) (a .counts) (o .pre .0 .0) (o .pre .0 .1) (a .guid .now) (l .loop .providers) (l .loop .inv .0 .2) _ g in
-    rw (c .before .before .before .come-to .ensures) (h .2)
+    let n = c .before .before .before .before in
+    let f = n .before .before in
+    let l = f .before .before .before .before .before in
+    let a = l .before .before .before .before .before .before .before .before .args in
+    subst (arrived (a .words .now) (runOf (a .capacities) (a .counts) (place TEMPLATES)) (l .loop .providers)) (n .next .given .1) (f .next-provider .ensures .1) .1
 
 loop-again : tie.Need-loop-again Inv-loop μ-loop
 loop-again c =
-    let p = c .before .before .before .before .before in
-    let f = p .before .before in
+    let n = c .before .before .before .before in
+    let f = n .before .before in
     let e = f .before in
     let x = e .before .before in
     let l = x .before .before in
     let r = l .before .before .before .before in
-    let o = r .before .before .before .before in
-    let a = o .args in
-    let g = sym (f .find .ensures) ∙ p .p .given .1 in
-    let h = came-to (a .words .now) (a .capacities) (a .counts) (o .pre .0 .0) (o .pre .0 .1) (a .guid .now) (l .loop .providers) (l .loop .inv .0 .2) _ g in
-    let n = l .loop .inv .1 ∙ tells-over (a .words .now) (r .run-of .result) (l .loop .templates) (a .key .now) (l .loop .marks) (l .loop .events) _ _ (x .next-new .ensures .0) _ (r .run-of .ensures) _ (e .enum-told .given .1) ∙ come-to (a .words .now) (a .capacities) (a .counts) (a .guid .now) (a .key .now) (l .loop .providers) _ _ g in
-    subst (λ (w : Walk). Stands (a .words .now) (runOf (a .capacities) (a .counts) (place TEMPLATES)) w × (newOf (a .words .now) (a .capacities) (a .counts) (a .guid .now) (a .key .now) (a .marks .now) (a .walk) ≡ newOf (a .words .now) (a .capacities) (a .counts) (a .guid .now) (a .key .now) (x .next-new .last .1 .1 .1 .1 .1 .0) w))
-    (sym (c .before .before .before .come-to .ensures)) (h .1, n)
+    let a = r .before .before .before .before .args in
+    let h = subst (arrived (a .words .now) (runOf (a .capacities) (a .counts) (place TEMPLATES)) (l .loop .providers)) (n .next .given .1) (f .next-provider .ensures .1) in
+    (h .0, l .loop .inv .1 ∙ tells-over (a .words .now) (r .run-of .result) (l .loop .templates) (a .key .now) (l .loop .marks) (l .loop .events) _ _ (x .next-new .ensures .0) _ (r .run-of .ensures) _ (e .enum-told .given .1) ∙ come-to (a .words .now) (a .capacities) (a .counts) (a .guid .now) (a .key .now) (l .loop .providers) _ ∙ ap (newAt (a .words .now) (a .capacities) (a .counts) (a .guid .now) (a .key .now) _) (sym (f .next-provider .ensures .0) ∙ n .next .given .1))
 
 pub advance-spec : {M : Type 1} → statement M
 advance-spec =
@@ -134,10 +110,9 @@ advance-spec =
     enum-known-n
     returns
     enum-told
-    find-requires
-    enum-known-p
+    next-provider-requires
+    enum-known-next
     enum-told-2
     returns-2
-    come-to-requires
     loop-less
     loop-again)

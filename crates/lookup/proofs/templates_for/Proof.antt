@@ -3,11 +3,11 @@ use mathlib.Core.Path.{refl, ap, sym, _∙_, subst}
 use mathlib.Core.List.{[]}
 use Rattle.format.specs.Area.{PROVIDERS, TEMPLATES, place, width}
 use Rattle.format.specs.Lists.{guidWords}
-use Rattle.format.specs.Lookup.{position, keyWords, guidsFound, guidsHeld}
+use Rattle.format.specs.Lookup.{guidsFound, guidsHeld}
 use Rattle.lists.specs.Fit.{fits-together, whole-few}
-use Rattle.lists.specs.Found.{entries, few, runOf, has, found}
-use Rattle.lookup.specs.Given.{Stands, cameTo, guidsFrom, roomFor}
-use Rattle.lookup.specs.ByKey.{key-wide, key-refused, key-room, came-to, key-found, key-none, given-none, refusal-keeps}
+use Rattle.lists.specs.Found.{few, runOf}
+use Rattle.lookup.specs.Given.{nextProvider, arrived, roomFor}
+use Rattle.lookup.specs.ByKey.{key-wide, key-refused, key-room, key-given, given-none, refusal-keeps}
 use borrow.Author.Needs.{needs}
 use native.Mathlib.Omega.{arith}
 use Rattle.lookup.proofs.templates_for.Statement.{statement}
@@ -27,13 +27,14 @@ returns-2 c =
 enum-told : tie.Need-enum-told
 enum-told c = search needs
 
-find-requires : tie.Need-find-requires
-find-requires c κs =
-    let e = c .before .before .before in
+next-provider-requires : tie.Need-next-provider-requires
+next-provider-requires c κs =
+    let r = c .before in
+    let e = r .before .before in
     let v = e .before .before in
     let a = v .before .before .before .before .args in
     let t = fits-together (a .words .now) (a .capacities) (a .counts) (sym (v .fit-together .ensures) ∙ e .enum-told .given .1) in
-    ((omega arith, omega arith), subst (λ r. few (width PROVIDERS) r (a .words .now)) (sym (c .before .run-of .ensures)) (whole-few (a .words .now) (a .capacities) (a .counts) (t .0) (place PROVIDERS)))
+    (t, (omega arith, subst (λ u. few (width PROVIDERS) u (a .words .now)) (sym (r .run-of .ensures)) (whole-few (a .words .now) (a .capacities) (a .counts) (t .0) (place PROVIDERS))))
 
 returns-3 : tie.Need-returns-3
 returns-3 c =
@@ -43,50 +44,30 @@ returns-3 c =
     let v = e .before .before in
     let a = v .before .before .before .before .args in
     let t = fits-together (a .words .now) (a .capacities) (a .counts) (sym (v .fit-together .ensures) ∙ e .enum-told .given .1) in
-    let n = key-none (a .words .now) (a .capacities) (a .counts) (t .0) (t .1) (a .key) (ap (λ u. found (position (has 0 (guidWords (a .key .guid))) (u .first) (entries (width PROVIDERS) u (a .words .now)))) (sym (r .run-of .ensures)) ∙ sym (f .find .ensures) ∙ c .enum-told2 .given .1) in
     let x = given-none (a .guids .now) [] (omega arith) in
-    let y = sym (key-room (a .words .now) (a .capacities) (a .counts) (a .key) (a .guids .now) (v .before .if1 .left) (t .0) (t .1) ∙ ap (roomFor (a .guids .now)) n) in
+    let y = sym (key-room (a .words .now) (a .capacities) (a .counts) (a .key) (a .guids .now) (v .before .if1 .left) (t .0) (t .1) ∙ ap (roomFor (a .guids .now)) (key-given (a .words .now) (a .capacities) (a .counts) (t .0) (t .1) (a .key) _ (ap (nextProvider (a .words .now) (a .capacities) (a .counts) (guidWords (a .key .guid))) (sym (r .run-of .ensures)) ∙ sym (f .next-provider .ensures .0) ∙ c .enum-told2 .given .1))) in
     record { answered = x .0 ∙ ap guidsFound y; kept = x .1 ∙ ap (guidsHeld (a .guids .now)) y }
-
-come-to-requires : tie.Need-come-to-requires
-come-to-requires c κs =
-    let p = c .before in
-    let f = p .before .before in
-    let r = f .before .before in
-    let e = r .before .before in
-    let v = e .before .before in
-    let a = v .before .before .before .before .args in
-    let t = fits-together (a .words .now) (a .capacities) (a .counts) (sym (v .fit-together .ensures) ∙ e .enum-told .given .1) in
-    let w = subst (λ u. few (width PROVIDERS) u (a .words .now)) (sym (r .run-of .ensures)) (whole-few (a .words .now) (a .capacities) (a .counts) (t .0) (place PROVIDERS)) in
-    let h = came-to (a .words .now) (a .capacities) (a .counts) (t .0) (t .1) (guidWords (a .key .guid)) (r .run-of .result) w _ (sym (f .find .ensures) ∙ p .p .given .1) in
-    (t .0, h .0, w .1)
 
 give-requires : tie.Need-give-requires
 give-requires c κs =
-    let p = c .before .before .before .before in
-    let f = p .before .before in
+    let f = c .before .before .before .before .before in
     let r = f .before .before in
     let e = r .before .before in
     let v = e .before .before in
     let a = v .before .before .before .before .args in
     let t = fits-together (a .words .now) (a .capacities) (a .counts) (sym (v .fit-together .ensures) ∙ e .enum-told .given .1) in
-    let w = subst (λ u. few (width PROVIDERS) u (a .words .now)) (sym (r .run-of .ensures)) (whole-few (a .words .now) (a .capacities) (a .counts) (t .0) (place PROVIDERS)) in
-    let h = came-to (a .words .now) (a .capacities) (a .counts) (t .0) (t .1) (guidWords (a .key .guid)) (r .run-of .result) w _ (sym (f .find .ensures) ∙ p .p .given .1) in
-    (t, ((omega arith, v .before .if1 .left), subst (Stands (a .words .now) (runOf (a .capacities) (a .counts) (place TEMPLATES))) (sym (c .before .before .come-to .ensures)) (h .1)))
+    (t, ((omega arith, v .before .if1 .left), subst (arrived (a .words .now) (runOf (a .capacities) (a .counts) (place TEMPLATES)) (r .run-of .result)) (c .before .before .before .walk .given .1) (f .next-provider .ensures .1) .0))
 
 returns-4 : tie.Need-returns-4
 returns-4 c =
-    let u = c .before .before in
-    let p = c .before .before .before .before .before .before .before in
-    let f = p .before .before in
+    let f = c .before .before .before .before .before .before .before .before in
     let r = f .before .before in
     let e = r .before .before in
     let v = e .before .before in
     let a = v .before .before .before .before .args in
     let t = fits-together (a .words .now) (a .capacities) (a .counts) (sym (v .fit-together .ensures) ∙ e .enum-told .given .1) in
-    let k = key-found (a .words .now) (a .capacities) (a .counts) (t .0) (t .1) (a .key) _ (ap (λ u. found (position (has 0 (guidWords (a .key .guid))) (u .first) (entries (width PROVIDERS) u (a .words .now)))) (sym (r .run-of .ensures)) ∙ sym (f .find .ensures) ∙ p .p .given .1) in
-    let w = c .before .before .before .before .before .come-to .ensures ∙ ap (λ u. cameTo (a .words .now) (a .capacities) (a .counts) u (p .p .given .0 .0)) (r .run-of .ensures) in
-    let x = sym (key-room (a .words .now) (a .capacities) (a .counts) (a .key) (a .guids .now) (v .before .if1 .left) (t .0) (t .1) ∙ ap (roomFor (a .guids .now)) (k ∙ ap (guidsFrom (a .words .now) (a .capacities) (a .counts) (guidWords (a .key .guid)) (keyWords (a .key))) (sym w))) in
+    let u = c .before .before in
+    let x = sym (key-room (a .words .now) (a .capacities) (a .counts) (a .key) (a .guids .now) (v .before .if1 .left) (t .0) (t .1) ∙ ap (roomFor (a .guids .now)) (key-given (a .words .now) (a .capacities) (a .counts) (t .0) (t .1) (a .key) _ (ap (nextProvider (a .words .now) (a .capacities) (a .counts) (guidWords (a .key .guid))) (sym (r .run-of .ensures)) ∙ sym (f .next-provider .ensures .0) ∙ c .before .before .before .before .before .before .walk .given .1))) in
     record { answered = u .give .ensures .0 ∙ ap guidsFound x; kept = u .give .ensures .1 ∙ ap (guidsHeld (a .guids .now)) x }
 
 pub templates-for-spec : {M : Type 1} → statement M
@@ -102,11 +83,10 @@ templates-for-spec =
     enum-told
     (λ c κs. search needs)
     (λ c. search needs)
-    find-requires
+    next-provider-requires
     (λ c. search needs)
     (λ c. search needs)
     returns-3
-    come-to-requires
     (λ c. search needs)
     give-requires
     (λ c. search needs)
