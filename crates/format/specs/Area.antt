@@ -63,7 +63,7 @@ rows =
     ∷ row EVENTS 16
     ∷ row MAPS 12
     ∷ row ENTRIES 2
-    ∷ row TEMPLATES 12
+    ∷ row TEMPLATES 13
     ∷ row UNKNOWN 4
     ∷ row ITEMS 10
     ∷ []

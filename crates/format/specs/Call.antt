@@ -63,10 +63,10 @@ templateNumbers f = said (templateSays f) (foundNumbers f)
 abbrev pub each-row : List ℕ → List ℕ → Bool
 each-row capacities counts = eqb (length capacities) (length rows) && eqb (length counts) (length rows)
 
-unfoldable pub calledAt : (words capacities counts : List ℕ) → (first count offset n : ℕ) → TemplateFound
-calledAt words capacities counts first count offset n =
+unfoldable pub calledAt : (words capacities counts : List ℕ) → (provider first count offset n : ℕ) → TemplateFound
+calledAt words capacities counts provider first count offset n =
     choose (each-row capacities counts && eqb n 6)
-    (byOffset words capacities counts first count offset)
+    (byOffset words capacities counts provider first count offset)
     (template.Refused (own 8))
 
 -- "`key` has 12 words (GUID 4, event_id, version, channel, level, opcode, task, keywords low, high)"
@@ -108,9 +108,9 @@ pub record AllowedNeeds (bytes lent : List ℕ) (code : ℕ) (lent' : List ℕ) 
   pub coded : code ≡ needing (calledNeeds bytes (length lent)) .code
   pub numbered : lent' ≡ told lent (numbers (needing (calledNeeds bytes (length lent))))
 
-pub record AllowedTemplate (words capacities counts : List ℕ) (first count offset : ℕ) (lent : List ℕ) (code : ℕ) (lent' : List ℕ) : Type 0 where
-  pub coded : code ≡ getD (templateNumbers (calledAt words capacities counts first count offset (length lent))) 0 0
-  pub numbered : lent' ≡ told lent (templateNumbers (calledAt words capacities counts first count offset (length lent)))
+pub record AllowedTemplate (words capacities counts : List ℕ) (provider first count offset : ℕ) (lent : List ℕ) (code : ℕ) (lent' : List ℕ) : Type 0 where
+  pub coded : code ≡ getD (templateNumbers (calledAt words capacities counts provider first count offset (length lent))) 0 0
+  pub numbered : lent' ≡ told lent (templateNumbers (calledAt words capacities counts provider first count offset (length lent)))
 
 pub record AllowedGuids (words capacities counts key guids lent : List ℕ) (code : ℕ) (guids' lent' : List ℕ) : Type 0 where
   pub coded : code ≡ getD (guidNumbers (guidsFound (calledFor words capacities counts key guids (length lent)))) 0 0

@@ -25,18 +25,21 @@ KEY = 8
 abbrev pub EVENT-TEMPLATE : ℕ
 EVENT-TEMPLATE = 9
 
--- a template's offset, size, GUID, and where its BinXML starts and how long it is
+-- a template's provider number, offset, size, GUID, and where its BinXML starts and how long it is
+abbrev pub TEMPLATE-PROVIDER : ℕ
+TEMPLATE-PROVIDER = 0
+
 abbrev pub TEMPLATE-OFFSET : ℕ
-TEMPLATE-OFFSET = 0
+TEMPLATE-OFFSET = 1
 
 abbrev pub TEMPLATE-SIZE : ℕ
-TEMPLATE-SIZE = 1
+TEMPLATE-SIZE = 2
 
 abbrev pub TEMPLATE-GUID : ℕ
-TEMPLATE-GUID = 6
+TEMPLATE-GUID = 7
 
 abbrev pub TEMPLATE-START : ℕ
-TEMPLATE-START = 10
+TEMPLATE-START = 11
 
 abbrev pub TEMPLATE-LENGTH : ℕ
-TEMPLATE-LENGTH = 11
+TEMPLATE-LENGTH = 12

@@ -8,7 +8,7 @@ use lib.ListN.{length, replicate, getD}
 use lib.Dec.{leb}
 use Rattle.blob.specs.Reading.{Outcome, done, refused, choose}
 use Rattle.format.specs.Area.{PROVIDERS, EVENTS, TEMPLATES, rows, place}
-use Rattle.format.specs.Entry.{TEMPLATE-OFFSET, TEMPLATE-SIZE, TEMPLATE-START, TEMPLATE-LENGTH}
+use Rattle.format.specs.Entry.{TEMPLATE-PROVIDER, TEMPLATE-OFFSET, TEMPLATE-SIZE, TEMPLATE-START, TEMPLATE-LENGTH}
 use Rattle.format.specs.Crim.{Crim}
 use Rattle.format.specs.Lists.{Entry, lists}
 use Rattle.format.specs.Answer.{areas, reading}
@@ -20,10 +20,11 @@ pub data Piece : Type 0 where
 abbrev pub sixty-four : List ℕ
 sixty-four = map (λ r. 64) rows
 
--- a template entry's offset, size, BinXML start and length
+-- a template entry's offset, provider, size, BinXML start and length
 abbrev pub templateLine : Entry → List Piece
 templateLine t =
-    says "template" ∷ number (getD t TEMPLATE-OFFSET 0) ∷ says "size" ∷ number (getD t TEMPLATE-SIZE 0)
+    says "template" ∷ number (getD t TEMPLATE-OFFSET 0) ∷ says "provider" ∷ number (getD t TEMPLATE-PROVIDER 0)
+    ∷ says "size" ∷ number (getD t TEMPLATE-SIZE 0)
     ∷ says "binxml" ∷ number (getD t TEMPLATE-START 0) ∷ number (getD t TEMPLATE-LENGTH 0) ∷ []
 
 abbrev pub lines : Outcome Crim → List (List Piece)

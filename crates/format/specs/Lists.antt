@@ -71,10 +71,11 @@ mapWords before m =
 abbrev pub mapEntryWords : MapEntry → Entry
 mapEntryWords e = e .identifier ∷ e .message ∷ []
 
--- "9 templates | 12 | offset, size, descriptor count, name count, items offset, event type, GUID (4), binxml start, length"
-abbrev pub templateWords : Template → Entry
-templateWords t =
-    t .offset ∷ t .size ∷ t .descriptors ∷ t .names ∷ t .items-offset ∷ t .event ∷ (guidWords (t .guid) ++ (t .start ∷ t .length ∷ []))
+-- "9 templates | 12 | offset, size, descriptor count, name count, items offset, event type, GUID (4), binxml start, length"; "the provider
+-- number as the first word of each template entry, 13 words now" (request 06)
+abbrev pub templateWords : ℕ → Template → Entry
+templateWords provider t =
+    provider ∷ t .offset ∷ t .size ∷ t .descriptors ∷ t .names ∷ t .items-offset ∷ t .event ∷ (guidWords (t .guid) ++ (t .start ∷ t .length ∷ []))
 
 -- "10 unknown elements | 4 | provider number, signature, offset, size"
 abbrev pub unknownWords : ℕ → Unknown → Entry
@@ -196,7 +197,7 @@ lists ps =
     ∷ flat (λ o. map eventWords (eventsIn (o .table .rows))) tables
     ∷ mapList 0 all-maps
     ∷ flat (λ m. map mapEntryWords (m .entries)) all-maps
-    ∷ flat (λ o. map templateWords (templatesIn (o .table .rows))) tables
+    ∷ flat (λ o. map (templateWords (o .provider)) (templatesIn (o .table .rows))) tables
     ∷ ownedUnknowns 0 ps
     ∷ itemList 0 (flat (λ o. templatesIn (o .table .rows)) tables)
     ∷ []

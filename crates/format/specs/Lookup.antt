@@ -2,14 +2,14 @@
 -- capacity or a fault named below, then 9." (finding a template)
 use Prim.Native.Nat.{ℕ, zero, suc, _+_, _-_, _/_}
 use mathlib.Core.Path.{_≡_}
-use mathlib.Core.Bool.{Bool, true, false, not, _&&_}
+use mathlib.Core.Bool.{Bool, true, false, not, _&&_, _||_}
 use mathlib.Core.List.{List, [], _∷_, map}
 use lib.ListN.{length, getD, take, drop}
 use lib.Dec.{leb, ltb, eqb}
 use Rattle.blob.specs.Reading.{Outcome, done, refused, choose, answer}
 use Rattle.blob.specs.Laid.{laid, flat}
 use Rattle.format.specs.Area.{PROVIDERS, TABLES, EVENTS, TEMPLATES, GUIDS, rows, place, width, of}
-use Rattle.format.specs.Entry.{TABLE-PROVIDER, TABLE-KIND, TABLE-FIRST, TABLE-COUNT, GUID, KEY, EVENT-TEMPLATE, TEMPLATE-OFFSET, TEMPLATE-GUID}
+use Rattle.format.specs.Entry.{TABLE-PROVIDER, TABLE-KIND, TABLE-FIRST, TABLE-COUNT, GUID, KEY, EVENT-TEMPLATE, TEMPLATE-PROVIDER, TEMPLATE-OFFSET, TEMPLATE-GUID}
 use Rattle.format.specs.Table.{EVNT, TTBL, kindList}
 use Rattle.format.specs.Lists.{Entry, guidWords}
 use Rattle.format.specs.Answer.{own, too-small, areas, lent-enough}
@@ -54,16 +54,20 @@ positions p n [] = []
 positions p n (e ∷ es) = choose (p e) (n ∷ positions p (suc n) es) (positions p (suc n) es)
 
 -- "By offset: given a first entry and a count, the number in list 9 of the lowest template entry in that range whose offset is equal,
--- or none exactly if none is. A range past the list is 10."
+-- or none exactly if none is. A range past the list is 10."; it takes "a provider number" too, and "A range entry with another provider
+-- doesn't match." (request 06)
 abbrev pub numbered : List ℕ → TemplateFound
 numbered [] = template.Nothing
 numbered (n ∷ ns) = template.Number n
 
-unfoldable pub byOffset : List ℕ → List ℕ → List ℕ → (first count offset : ℕ) → TemplateFound
-byOffset words capacities counts first count offset =
+abbrev pub matches : (provider offset : ℕ) → Entry → Bool
+matches provider offset t = eqb (wordOf TEMPLATE-PROVIDER t) provider && eqb (wordOf TEMPLATE-OFFSET t) offset
+
+unfoldable pub byOffset : List ℕ → List ℕ → List ℕ → (provider first count offset : ℕ) → TemplateFound
+byOffset words capacities counts provider first count offset =
     choose (lent-enough capacities words)
     (choose (counts-fit counts capacities && leb (first + count) (of TEMPLATES counts))
-    (numbered (position (λ t. eqb (wordOf TEMPLATE-OFFSET t) offset) first (take count (drop first (entriesOf words capacities counts TEMPLATES)))))
+    (numbered (position (matches provider offset) first (take count (drop first (entriesOf words capacities counts TEMPLATES)))))
     (template.Refused (own 10)))
     (template.Refused (own 8))
 
@@ -95,10 +99,26 @@ unfoldable pub tablesFit : List ℕ → List Entry → Bool
 tablesFit counts [] = true
 tablesFit counts (t ∷ ts) = tableFits counts t && tablesFit counts ts
 
--- "A provider's first table entry of a kind is used.": the entries of its range, in their list
+-- the entries of a table's range, in their list
+abbrev pub rangeOf : List Entry → Entry → List Entry
+rangeOf es t = take (wordOf TABLE-COUNT t) (drop (wordOf TABLE-FIRST t) es)
+
+-- "10 is also given by the key lookup if a kind 8 table's range holds a template of another provider." (request 06)
+unfoldable pub all-of : ℕ → List Entry → Bool
+all-of provider [] = true
+all-of provider (t ∷ ts) = eqb (wordOf TEMPLATE-PROVIDER t) provider && all-of provider ts
+
+abbrev pub tableOwns : List Entry → Entry → Bool
+tableOwns templates t = not (eqb (wordOf TABLE-KIND t) TTBL) || all-of (wordOf TABLE-PROVIDER t) (rangeOf templates t)
+
+unfoldable pub tablesOwn : List Entry → List Entry → Bool
+tablesOwn templates [] = true
+tablesOwn templates (t ∷ ts) = tableOwns templates t && tablesOwn templates ts
+
+-- "A provider's first table entry of a kind is used.": the entries of its range
 abbrev pub ownedBy : List Entry → ℕ → ℕ → List Entry → List Entry
 ownedBy tables provider kind es =
-    flat (λ t. take (wordOf TABLE-COUNT t) (drop (wordOf TABLE-FIRST t) es))
+    flat (rangeOf es)
     (take 1 (select (λ t. eqb (wordOf TABLE-PROVIDER t) provider && eqb (wordOf TABLE-KIND t) kind) tables))
 
 -- "the seven fields `event_id` to `keywords`", as an event's first eight words
@@ -132,8 +152,9 @@ unfoldable pub byKey : List ℕ → List ℕ → List ℕ → Key → List ℕ �
 byKey words capacities counts key lent =
     let capacity = length lent / GUID in
     let found = guidsOf words capacities counts key in
+    let tables = entriesOf words capacities counts TABLES in
     choose (lent-enough capacities words && leb capacity 65536)
-    (choose (counts-fit counts capacities && tablesFit counts (entriesOf words capacities counts TABLES))
+    (choose (counts-fit counts capacities && (tablesFit counts tables && tablesOwn (entriesOf words capacities counts TEMPLATES) tables))
     (choose (leb (length found) capacity) (done found) (refused (too-small GUIDS capacity)))
     (refused (own 10)))
     (refused (own 8))
@@ -147,8 +168,8 @@ guidsHeld lent (done gs) = laid lent 0 (flat (λ g. g) gs)
 guidsHeld lent (refused r) = lent
 
 -- What the lookups may answer and leave in the lent list: this, and nothing else. It is what the code promises.
-pub record AllowedAt (words capacities counts : List ℕ) (first count offset : ℕ) (f : TemplateFound) : Type 0 where
-  pub answered : f ≡ byOffset words capacities counts first count offset
+pub record AllowedAt (words capacities counts : List ℕ) (provider first count offset : ℕ) (f : TemplateFound) : Type 0 where
+  pub answered : f ≡ byOffset words capacities counts provider first count offset
 
 pub record AllowedFor (words capacities counts : List ℕ) (key : Key) (lent : List ℕ) (f : GuidsFound) (after : List ℕ) : Type 0 where
   pub answered : f ≡ guidsFound (byKey words capacities counts key lent)

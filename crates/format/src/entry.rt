@@ -13,12 +13,14 @@ pub const KEY: usize = 8;
 
 pub const EVENT_TEMPLATE: usize = 9;
 
-pub const TEMPLATE_OFFSET: usize = 0;
+pub const TEMPLATE_PROVIDER: usize = 0;
 
-pub const TEMPLATE_SIZE: usize = 1;
+pub const TEMPLATE_OFFSET: usize = 1;
 
-pub const TEMPLATE_GUID: usize = 6;
+pub const TEMPLATE_SIZE: usize = 2;
 
-pub const TEMPLATE_START: usize = 10;
+pub const TEMPLATE_GUID: usize = 7;
 
-pub const TEMPLATE_LENGTH: usize = 11;
+pub const TEMPLATE_START: usize = 11;
+
+pub const TEMPLATE_LENGTH: usize = 12;

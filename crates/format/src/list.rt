@@ -98,7 +98,7 @@ pub mod width {
 
     pub const ENTRIES: usize = 2;
 
-    pub const TEMPLATES: usize = 12;
+    pub const TEMPLATES: usize = 13;
 
     pub const UNKNOWN: usize = 4;
 

@@ -40,7 +40,7 @@ tablePart l n before t =
     choose (eqb l MAPS) (flat (λ e. e) (mapList (of ENTRIES before) (mapsIn (t .rows)))) (
     choose (eqb l ENTRIES) (flat (λ m. flat mapEntryWords (m .entries)) (mapsIn (t .rows))) (
     choose (eqb l ITEMS) (flat (λ e. e) (itemList (of TEMPLATES before) (templatesIn (t .rows))))
-    (flat templateWords (templatesIn (t .rows))))))))
+    (flat (templateWords n) (templatesIn (t .rows))))))))
 
 -- what is written behind it: list 4 counts its entries, list 7 its maps' entries, list 12 its templates
 abbrev pub behind : ℕ → List ℕ → Table → List ℕ

@@ -94,7 +94,7 @@ table =
     ∷ record { bytes = Z 15 0; row = refusal 3 2 0 15 0 }
     ∷ record { bytes = Z 17 0; row = refusal 3 2 0 17 0 }
     ∷ record { bytes = Z 16 1; row = refusal 1 6 16 20 0 }
-    -- "T: one provider, descriptor, table, template; template entry 76, 40, eight zeros, 116, 0."
+    -- "T: one provider, descriptor, table, template; template entry 76, 40, eight zeros, 116, 0.", with its provider, 0, in front (request 06)
     ∷ record { bytes = T 52 40 0 0; row = whole }
     -- "T with TTBL.size 51: 1 at 76, need 40, have 39. TEMP.size 39: 3 at 76."
     ∷ record { bytes = T 51 40 0 0; row = refusal 1 80 76 40 39 }
@@ -163,21 +163,21 @@ table =
         }
 
     whole : Row
-    whole = accepted 116 52 (76 ∷ 40 ∷ 0 ∷ 0 ∷ 0 ∷ 0 ∷ 0 ∷ 0 ∷ 0 ∷ 0 ∷ 116 ∷ 0 ∷ []) 0 []
+    whole = accepted 116 52 (0 ∷ 76 ∷ 40 ∷ 0 ∷ 0 ∷ 0 ∷ 0 ∷ 0 ∷ 0 ∷ 0 ∷ 0 ∷ 116 ∷ 0 ∷ []) 0 []
 
     with-item : (guid offset start units ended : ℕ) → Row
     with-item guid offset start units ended =
-        accepted 152 80 (76 ∷ 68 ∷ 1 ∷ 1 ∷ 116 ∷ 0 ∷ guid ∷ 0 ∷ 0 ∷ 0 ∷ 116 ∷ 0 ∷ []) 1 (0 ∷ 0 ∷ 0 ∷ 0 ∷ 0 ∷ 0 ∷ offset ∷ start ∷ units ∷ ended ∷ [])
+        accepted 152 80 (0 ∷ 76 ∷ 68 ∷ 1 ∷ 1 ∷ 116 ∷ 0 ∷ guid ∷ 0 ∷ 0 ∷ 0 ∷ 116 ∷ 0 ∷ []) 1 (0 ∷ 0 ∷ 0 ∷ 0 ∷ 0 ∷ 0 ∷ offset ∷ start ∷ units ∷ ended ∷ [])
 
 -- every row is what the definition finds
 cases : map (λ c. found (c .bytes)) table ≡ map (λ c. c .row) table
 unfolding found table
 cases = refl
 
--- "The listing of T, whole"
+-- "The listing of T, whole"; "template 76 provider 0 size 40 binxml 116 0" (request 06)
 listed-T : listing (T 52 40 0 0)
     ≡ (says "crim" ∷ numeral 116 ∷ says "providers" ∷ numeral 1 ∷ says "events" ∷ numeral 0 ∷ says "templates" ∷ numeral 1 ∷ [])
-    ∷ (says "template" ∷ numeral 76 ∷ says "size" ∷ numeral 40 ∷ says "binxml" ∷ numeral 116 ∷ numeral 0 ∷ [])
+    ∷ (says "template" ∷ numeral 76 ∷ says "provider" ∷ numeral 0 ∷ says "size" ∷ numeral 40 ∷ says "binxml" ∷ numeral 116 ∷ numeral 0 ∷ [])
     ∷ []
 unfolding found listing
 listed-T = refl

@@ -27,9 +27,9 @@ needs-determined bytes a b h g = h .answered ∙ sym (g .answered)
 
 -- so of the lookups, and of what a handle shows
 module _ (words capacities counts : List ℕ) where
-  pub determined-at : (first count offset : ℕ) (f g : TemplateFound) → AllowedAt words capacities counts first count offset f
-      → AllowedAt words capacities counts first count offset g → f ≡ g
-  determined-at first count offset f g h k = h .answered ∙ sym (k .answered)
+  pub determined-at : (provider first count offset : ℕ) (f g : TemplateFound) → AllowedAt words capacities counts provider first count offset f
+      → AllowedAt words capacities counts provider first count offset g → f ≡ g
+  determined-at provider first count offset f g h k = h .answered ∙ sym (k .answered)
 
   pub determined-for : (key : Key) (lent : List ℕ) (f g : GuidsFound) (after after' : List ℕ) → AllowedFor words capacities counts key lent f after
       → AllowedFor words capacities counts key lent g after' → (f ≡ g) × (after ≡ after')
@@ -46,9 +46,9 @@ determined-read bytes words capacities lent c d w v l m h g = (h .coded ∙ sym 
 pub determined-needs : (bytes lent : List ℕ) (c d : ℕ) (l m : List ℕ) → AllowedNeeds bytes lent c l → AllowedNeeds bytes lent d m → (c ≡ d) × (l ≡ m)
 determined-needs bytes lent c d l m h g = (h .coded ∙ sym (g .coded), h .numbered ∙ sym (g .numbered))
 
-pub determined-template : (words capacities counts : List ℕ) (first count offset : ℕ) (lent : List ℕ) (c d : ℕ) (l m : List ℕ)
-    → AllowedTemplate words capacities counts first count offset lent c l → AllowedTemplate words capacities counts first count offset lent d m → (c ≡ d) × (l ≡ m)
-determined-template words capacities counts first count offset lent c d l m h g = (h .coded ∙ sym (g .coded), h .numbered ∙ sym (g .numbered))
+pub determined-template : (words capacities counts : List ℕ) (provider first count offset : ℕ) (lent : List ℕ) (c d : ℕ) (l m : List ℕ)
+    → AllowedTemplate words capacities counts provider first count offset lent c l → AllowedTemplate words capacities counts provider first count offset lent d m → (c ≡ d) × (l ≡ m)
+determined-template words capacities counts provider first count offset lent c d l m h g = (h .coded ∙ sym (g .coded), h .numbered ∙ sym (g .numbered))
 
 pub determined-guids : (words capacities counts key guids lent : List ℕ) (c d : ℕ) (w v l m : List ℕ)
     → AllowedGuids words capacities counts key guids lent c w l → AllowedGuids words capacities counts key guids lent d v m → (c ≡ d) × (w ≡ v) × (l ≡ m)

@@ -19,7 +19,7 @@ use Rattle.format.specs.Provider.{Rows, definitions, events, maps, templ
 use Rattle.format.specs.Area.{PROVIDERS, TABLES, EVENTS, MAPS, TEMPLATES, GUIDS, rows, none, more}
 use Rattle.format.specs.Lists.{Entry, Owned, lastOf, kept, mapList, definitionWords, mapWords, itemWords, itemList, tableEntries}
 use Rattle.format.specs.Answer.{areas, filled, moderate, own, too-small, with-room}
-use Rattle.format.specs.Lookup.{alike, among, byKey, byOffset, counts-fit, entriesFrom, guidsHeld, guidsOf, once, position, positions, select, tableFits, tablesFit, wordOf}
+use Rattle.format.specs.Lookup.{all-of, alike, among, byKey, byOffset, counts-fit, entriesFrom, guidsHeld, guidsOf, once, position, positions, select, tableFits, tablesFit, tablesOwn, wordOf}
 use Rattle.format.specs.Handle.{shown}
 use Rattle.format.specs.declared.Name.{Name}
 use Rattle.format.specs.declared.Event.{Event}
@@ -145,17 +145,17 @@ some = more PROVIDERS 1 (more TABLES 2 (more EVENTS 3 (more TEMPLATES 3 none)))
 abbrev event : ℕ → List ℕ
 event at = 10 ∷ 1 ∷ 2 ∷ 3 ∷ 4 ∷ 5 ∷ 6 ∷ 7 ∷ 0 ∷ at ∷ replicate 6 0
 
-abbrev temp : ℕ → ℕ → List ℕ
-temp at g = at ∷ 40 ∷ 0 ∷ 0 ∷ 0 ∷ 0 ∷ g ∷ g ∷ g ∷ g ∷ 0 ∷ 0 ∷ []
+abbrev temp : ℕ → ℕ → ℕ → List ℕ
+temp provider at g = provider ∷ at ∷ 40 ∷ 0 ∷ 0 ∷ 0 ∷ 0 ∷ g ∷ g ∷ g ∷ g ∷ 0 ∷ 0 ∷ []
 
--- the words, with the kind of the second table
-abbrev words : ℕ → List ℕ
-words kind =
+-- the words, with the kind of the second table and the provider of the second template
+abbrev words : ℕ → ℕ → List ℕ
+words kind provider =
     (1 ∷ 2 ∷ 3 ∷ 4 ∷ replicate 5 0)
     ++ (0 ∷ 2 ∷ 0 ∷ 0 ∷ 0 ∷ 0 ∷ 3 ∷ 0 ∷ 0 ∷ [])
     ++ (0 ∷ kind ∷ 0 ∷ 0 ∷ 0 ∷ 0 ∷ 3 ∷ 0 ∷ 0 ∷ [])
     ++ event 0 ++ event 76 ++ event 76
-    ++ temp 50 5 ++ temp 76 8 ++ temp 76 9
+    ++ temp 0 50 5 ++ temp provider 76 8 ++ temp 0 76 9
 
 -- the same with a map, for which there is no room
 abbrev one-map : List ℕ
@@ -165,56 +165,69 @@ abbrev key : ℕ → Key
 key version = record { guid = record { a = 1; b = 2; c = 3; d = 4 }; identifier = 10; version = version; channel = 2; level = 3; opcode = 4; task = 5; low = 6; high = 7 }
 
 abbrev lookup : ℕ → ℕ → List ℕ → Outcome (List Entry)
-lookup kind version lent = byKey (words kind) some some (key version) lent
+lookup kind version lent = byKey (words kind 0) some some (key version) lent
 
 -- the lowest template of an offset, within the range; none; a range past the list; a count over its capacity; too few words
-lowest : byOffset (words 8) some some 0 3 76 ≡ template.Number 1
+lowest : byOffset (words 8 0) some some 0 0 3 76 ≡ template.Number 1
 unfolding byOffset moderate areas counts-fit entriesFrom position
 lowest = refl
 
-within-the-range : byOffset (words 8) some some 2 1 76 ≡ template.Number 2
+within-the-range : byOffset (words 8 0) some some 0 2 1 76 ≡ template.Number 2
 unfolding byOffset moderate areas counts-fit entriesFrom position
 within-the-range = refl
 
-none-there : byOffset (words 8) some some 0 3 77 ≡ template.Nothing
+none-there : byOffset (words 8 0) some some 0 0 3 77 ≡ template.Nothing
 unfolding byOffset moderate areas counts-fit entriesFrom position
 none-there = refl
 
-past-the-list : byOffset (words 8) some some 4 0 76 ≡ template.Refused (own 10)
+-- another provider's at the offset is no match, and the search goes on behind it; the number is compared and no more
+anothers-passed : byOffset (words 8 7) some some 0 0 3 76 ≡ template.Number 2
+unfolding byOffset moderate areas counts-fit entriesFrom position
+anothers-passed = refl
+
+only-compared : byOffset (words 8 7) some some 7 0 3 76 ≡ template.Number 1
+unfolding byOffset moderate areas counts-fit entriesFrom position
+only-compared = refl
+
+none-of-it : byOffset (words 8 0) some some 7 0 3 76 ≡ template.Nothing
+unfolding byOffset moderate areas counts-fit entriesFrom position
+none-of-it = refl
+
+past-the-list : byOffset (words 8 0) some some 0 4 0 76 ≡ template.Refused (own 10)
 unfolding byOffset moderate areas counts-fit
 past-the-list = refl
 
-over-capacity : byOffset (words 8) some one-map 0 3 76 ≡ template.Refused (own 10)
+over-capacity : byOffset (words 8 0) some one-map 0 0 3 76 ≡ template.Refused (own 10)
 unfolding byOffset moderate areas counts-fit
 over-capacity = refl
 
-too-few-words : byOffset [] some some 4 0 76 ≡ template.Refused (own 8)
+too-few-words : byOffset [] some some 0 4 0 76 ≡ template.Refused (own 8)
 unfolding byOffset moderate areas
 too-few-words = refl
 
 -- by key: the GUID of the lowest template, once; nothing for another key; 9 where it does not fit; 10 for a kind that is none; 10 before 9 for a count over its capacity
 given-once : lookup 8 1 (replicate 5 0) ≡ done ((8 ∷ 8 ∷ 8 ∷ 8 ∷ []) ∷ [])
-unfolding byKey guidsOf moderate areas counts-fit entriesFrom positions tablesFit select alike among once flat
+unfolding byKey guidsOf moderate areas counts-fit entriesFrom positions tablesFit tablesOwn all-of select alike among once flat
 given-once = refl
 
 written-once : guidsHeld (replicate 5 0) (lookup 8 1 (replicate 5 0)) ≡ 8 ∷ 8 ∷ 8 ∷ 8 ∷ 0 ∷ []
-unfolding byKey guidsOf moderate areas counts-fit entriesFrom positions tablesFit select alike among once flat laid
+unfolding byKey guidsOf moderate areas counts-fit entriesFrom positions tablesFit tablesOwn all-of select alike among once flat laid
 written-once = refl
 
 another-key : lookup 8 2 [] ≡ done []
-unfolding byKey guidsOf moderate areas counts-fit entriesFrom positions tablesFit select alike among once flat
+unfolding byKey guidsOf moderate areas counts-fit entriesFrom positions tablesFit tablesOwn all-of select alike among once flat
 another-key = refl
 
 no-room : lookup 8 1 (replicate 3 0) ≡ refused (too-small GUIDS 0)
-unfolding byKey guidsOf moderate areas counts-fit entriesFrom positions tablesFit select alike among once flat
+unfolding byKey guidsOf moderate areas counts-fit entriesFrom positions tablesFit tablesOwn all-of select alike among once flat
 no-room = refl
 
 no-kind : lookup 9 1 [] ≡ refused (own 10)
-unfolding byKey guidsOf moderate areas counts-fit entriesFrom positions tablesFit select alike among once flat
+unfolding byKey guidsOf moderate areas counts-fit entriesFrom positions tablesFit tablesOwn all-of select alike among once flat
 no-kind = refl
 
-ten-before-nine : byKey (words 8) some one-map (key 1) [] ≡ refused (own 10)
-unfolding byKey guidsOf moderate areas counts-fit entriesFrom positions tablesFit select alike among once flat
+ten-before-nine : byKey (words 8 0) some one-map (key 1) [] ≡ refused (own 10)
+unfolding byKey guidsOf moderate areas counts-fit entriesFrom positions tablesFit tablesOwn all-of select alike among once flat
 ten-before-nine = refl
 
 -- Two providers of one GUID, with a third between them, and four events with one key: of the first provider at 50 and 90, of the last at
@@ -232,21 +245,47 @@ of-two n first =
     ++ (0 ∷ 2 ∷ 0 ∷ 0 ∷ 0 ∷ 0 ∷ n ∷ 0 ∷ 0 ∷ [])
     ++ (0 ∷ 8 ∷ 0 ∷ 0 ∷ 0 ∷ 0 ∷ 1 ∷ 0 ∷ 0 ∷ [])
     ++ event 50 ++ event 90 ++ event 76 ++ event 60
-    ++ temp 50 5 ++ temp 76 8 ++ temp 60 5 ++ temp 90 9
+    ++ temp 0 50 5 ++ temp 2 76 8 ++ temp 2 60 5 ++ temp 2 90 9
 
 -- in the order of the providers, each event in its own provider's templates, a GUID once over both; 9 counts that total
 both-providers : byKey (of-two 2 2) three three (key 1) (replicate 8 0) ≡ done ((5 ∷ 5 ∷ 5 ∷ 5 ∷ []) ∷ (8 ∷ 8 ∷ 8 ∷ 8 ∷ []) ∷ [])
-unfolding byKey guidsOf moderate areas counts-fit entriesFrom positions tablesFit select alike among once flat
+unfolding byKey guidsOf moderate areas counts-fit entriesFrom positions tablesFit tablesOwn all-of select alike among once flat
 both-providers = refl
 
 no-room-for-both : byKey (of-two 2 2) three three (key 1) (replicate 7 0) ≡ refused (too-small GUIDS 1)
-unfolding byKey guidsOf moderate areas counts-fit entriesFrom positions tablesFit select alike among once flat
+unfolding byKey guidsOf moderate areas counts-fit entriesFrom positions tablesFit tablesOwn all-of select alike among once flat
 no-room-for-both = refl
 
 -- events that damaged lists give to both are gone through for each
 events-of-both : byKey (of-two 4 0) three three (key 1) (replicate 12 0) ≡ done ((5 ∷ 5 ∷ 5 ∷ 5 ∷ []) ∷ (9 ∷ 9 ∷ 9 ∷ 9 ∷ []) ∷ (8 ∷ 8 ∷ 8 ∷ 8 ∷ []) ∷ [])
-unfolding byKey guidsOf moderate areas counts-fit entriesFrom positions tablesFit select alike among once flat
+unfolding byKey guidsOf moderate areas counts-fit entriesFrom positions tablesFit tablesOwn all-of select alike among once flat
 events-of-both = refl
+
+-- 10 for a TTBL whose range has another provider's template: the one that is used, and one that is not, but not for a template in no
+-- TTBL's range. A provider with an EVNT, a TTBL over the first template and another TTBL with some range; the last template is another's
+abbrev two-ttbls : List ℕ
+two-ttbls = more TABLES 1 some
+
+abbrev second : ℕ → ℕ → List ℕ
+second first n =
+    (1 ∷ 2 ∷ 3 ∷ 4 ∷ replicate 5 0)
+    ++ (0 ∷ 2 ∷ 0 ∷ 0 ∷ 0 ∷ 0 ∷ 3 ∷ 0 ∷ 0 ∷ [])
+    ++ (0 ∷ 8 ∷ 0 ∷ 0 ∷ 0 ∷ 0 ∷ 1 ∷ 0 ∷ 0 ∷ [])
+    ++ (0 ∷ 8 ∷ 0 ∷ 0 ∷ 0 ∷ first ∷ n ∷ 0 ∷ 0 ∷ [])
+    ++ event 0 ++ event 76 ++ event 76
+    ++ temp 0 76 5 ++ temp 0 76 8 ++ temp 1 76 9
+
+anothers-used : byKey (words 8 1) some some (key 1) [] ≡ refused (own 10)
+unfolding byKey guidsOf moderate areas counts-fit entriesFrom positions tablesFit tablesOwn all-of select alike among once flat
+anothers-used = refl
+
+anothers-not-used : byKey (second 1 2) two-ttbls two-ttbls (key 1) [] ≡ refused (own 10)
+unfolding byKey guidsOf moderate areas counts-fit entriesFrom positions tablesFit tablesOwn all-of select alike among once flat
+anothers-not-used = refl
+
+anothers-in-no-range : byKey (second 1 1) two-ttbls two-ttbls (key 1) (replicate 4 0) ≡ done ((5 ∷ 5 ∷ 5 ∷ 5 ∷ []) ∷ [])
+unfolding byKey guidsOf moderate areas counts-fit entriesFrom positions tablesFit tablesOwn all-of select alike among once flat
+anothers-in-no-range = refl
 
 -- a table entry with an empty range, of a kind and of none
 eighth-kind : tableFits some (0 ∷ 8 ∷ replicate 7 0) ≡ true

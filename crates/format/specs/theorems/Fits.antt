@@ -22,7 +22,7 @@ use Rattle.format.specs.Answer.{counted, capped}
 use Rattle.format.specs.steps.Needs.{total, afterAll, of-tables, entriesIn, has, needsAll}
 use Rattle.format.specs.steps.Parts.{Few, Counted, behind, behindAll, parts, passedAll}
 use Rattle.format.specs.theorems.Grows.{set-same, behindAll-same, behindAll-length, passedAll-tables}
-use Rattle.format.specs.theorems.Listed.{itemized, lists-itemized, first, number, listed}
+use Rattle.format.specs.theorems.Listed.{ownedWords, owned-then, itemized, lists-itemized, first, number, listed}
 use Rattle.format.specs.theorems.Needed.{total-length, after-all, counted-has, needed}
 
 -- entries of so many words each
@@ -42,6 +42,12 @@ wide-append (more e g) h = more e (wide-append g h)
 wide-map : {B : Type 0} (k : ℕ) (words : B → Entry) → ((b : B) → length (words b) ≡ k) → (xs : List B) → Wide k (map words xs)
 wide-map k words h [] = empty
 wide-map k words h (x ∷ xs) = more (h x) (wide-map k words h xs)
+
+wide-owned : {B : Type 0} (k : ℕ) (words : ℕ → B → Entry) (items : Rows → List B) → ((n : ℕ) (b : B) → length (words n b) ≡ k)
+    → (n : ℕ) (ps : List Provider) → Wide k (ownedWords words items n ps)
+unfolding flat ownedTables
+wide-owned k words items h n [] = empty
+wide-owned k words items h n (p ∷ ps) = rw (owned-then words items n p ps) (wide-append (wide-map k (words n) (h n) (of-tables items p)) (wide-owned k words items h (suc n) ps))
 
 wide-tables : (w : List ℕ) (os : List Owned) → Wide (width TABLES) (tableEntries w os)
 unfolding tableEntries
@@ -78,15 +84,15 @@ lists-wide ps =
           (
             wide-tables none (ownedTables 0 ps),
             (
-              wide-map _ definitionWords (λ d. refl) (flat (of-tables definitionsIn) ps),
+              wide-owned _ (λ n. definitionWords) definitionsIn (λ n d. refl) 0 ps,
               (
-                wide-map _ eventWords (λ e. refl) (flat (of-tables eventsIn) ps),
+                wide-owned _ (λ n. eventWords) eventsIn (λ n e. refl) 0 ps,
                 (
                   wide-maps 0 (flat (of-tables mapsIn) ps),
                   (
-                    wide-map _ mapEntryWords (λ e. refl) (flat (of-tables entriesIn) ps),
+                    wide-owned _ (λ n. mapEntryWords) entriesIn (λ n e. refl) 0 ps,
                     (
-                      wide-map _ templateWords (λ t. refl) (flat (of-tables templatesIn) ps),
+                      wide-owned _ templateWords templatesIn (λ n t. refl) 0 ps,
                       (wide-unknowns 0 ps, (wide-items 0 (flat (of-tables templatesIn) ps), tt)),
                     ),
                   ),

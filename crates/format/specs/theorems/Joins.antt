@@ -21,17 +21,17 @@ use Rattle.format.specs.Provider.{Rows, definitions, events, maps, templ
 use Rattle.format.specs.Crim.{Crim, crim}
 use Rattle.format.specs.Lists.{Entry, kept, Owned, ownedTables, listOf, rowCount, after, tableEntries, guidWords, providerWords, eventWords, templateWords, eventsIn, templatesIn, lists}
 use Rattle.format.specs.Answer.{own, too-small, lent-enough, with-room, reading, counted, answer, held, Allowed}
-use Rattle.format.specs.Lookup.{entriesOf, wordOf, counts-fit, select, position, positions, numbered, byOffset, alike, once, tablesFit, ownedBy, keyed, guidAtOffset, guidsOf, byKey}
+use Rattle.format.specs.Lookup.{entriesOf, wordOf, counts-fit, select, position, positions, numbered, matches, byOffset, alike, once, tablesFit, tablesOwn, ownedBy, keyed, guidAtOffset, guidsOf, byKey}
 use Rattle.format.specs.Join.{those, the-first, eventsOf, templatesOf, asked, guidsFrom, join}
 use Rattle.format.specs.steps.Parts.{behindAll}
 use Rattle.format.specs.theorems.Grows.{behindAll-grows}
 use Rattle.format.specs.theorems.Listed.{owned, itemized, lists-itemized, First}
-use Rattle.format.specs.theorems.Needed.{mapList-length}
+use Rattle.format.specs.theorems.Needed.{mapList-length, ownedWords-length}
 use Rattle.format.specs.theorems.Fits.{tables, ends, tables-end}
 use Rattle.format.specs.theorems.Known.{All, Known, Sound, owned-known, known}
 use Rattle.format.specs.theorems.Codes.{refused-code}
 use Rattle.format.specs.theorems.Taken.{read, filled-length, taken}
-use Rattle.format.specs.theorems.Ranges.{events-range, templates-range}
+use Rattle.format.specs.theorems.Ranges.{eventItems, templateItems, events-range, templates-range, tables-own}
 use Rattle.format.specs.declared.Answer.{Answer}
 use Rattle.format.specs.declared.Key.{Key}
 use Rattle.format.specs.Template.{Template}
@@ -98,7 +98,7 @@ tables-most : (ps : List Provider) (i : ℕ) → i < length rows → getD (behin
 tables-most ps i h =
     rw (tables-end ps, lists-itemized ps) (first-then (λ i. getD (ends ps) i 0 ≤ getD (counted (itemized ps)) i 0) 9 (
       omega arith,
-      (omega arith, (omega arith, (omega arith, (rw length-map (omega arith), (rw length-map (omega arith), (rw mapList-length (omega arith), (omega arith, (rw length-map (omega arith), tt)))))))),
+      (omega arith, (omega arith, (omega arith, (rw ownedWords-length (omega arith), (rw ownedWords-length (omega arith), (rw mapList-length (omega arith), (omega arith, (rw ownedWords-length (omega arith), tt)))))))),
     ) (λ j. omega (arith, none-at (drop 9 rows) j, getD-drop 9 (ends ps) j 0)) i)
 
 -- Of entries that are the words of some values, those that a test picks are the words of the values that it picks.
@@ -140,22 +140,22 @@ abbrev tableList : List Provider → List Entry
 tableList ps = tableEntries none (ownedTables 0 ps)
 
 abbrev eventList : List Provider → List Entry
-eventList ps = flat (λ o. map eventWords (eventsIn (o .table .rows))) (ownedTables 0 ps)
+eventList ps = flat (λ o. eventItems (o .provider) (o .table .rows)) (ownedTables 0 ps)
 
 abbrev templateList : List Provider → List Entry
-templateList ps = flat (λ o. map templateWords (templatesIn (o .table .rows))) (ownedTables 0 ps)
+templateList ps = flat (λ o. templateItems (o .provider) (o .table .rows)) (ownedTables 0 ps)
 
 module _ (key : Key) where
   abbrev foundOf : List Provider → ℕ → List Entry
   foundOf ps n = flat (λ e. guidAtOffset (ownedBy (tableList ps) n TTBL (templateList ps)) (wordOf EVENT-TEMPLATE e)) (select (keyed key) (ownedBy (tableList ps) n EVNT (eventList ps)))
 
-  guid-words : (ts : List Template) (offset : ℕ) → guidAtOffset (map templateWords ts) offset ≡ map (λ t. guidWords (t .guid)) (the-first (λ t. eqb (t .offset) offset) ts)
-  guid-words ts offset = first-words templateWords (λ t. eqb (wordOf TEMPLATE-OFFSET t) offset) (λ t. take GUID (drop TEMPLATE-GUID t)) ts
+  guid-words : (n : ℕ) (ts : List Template) (offset : ℕ) → guidAtOffset (map (templateWords n) ts) offset ≡ map (λ t. guidWords (t .guid)) (the-first (λ t. eqb (t .offset) offset) ts)
+  guid-words n ts offset = first-words (templateWords n) (λ t. eqb (wordOf TEMPLATE-OFFSET t) offset) (λ t. take GUID (drop TEMPLATE-GUID t)) ts
 
   one-join : (qs : List Provider) (p : Provider) (rs : List Provider) → All (λ p. All Known (kept (p .elements))) (qs ++ p ∷ rs) → foundOf (qs ++ p ∷ rs) (length qs) ≡ guidsFrom key p
   one-join qs p rs a =
       rw (templates-range qs p rs a, events-range qs p rs a, select-words eventWords (keyed key) (eventsOf p))
-      (flat-map (λ e. guidAtOffset (map templateWords (templatesOf p)) (wordOf EVENT-TEMPLATE e)) eventWords (those (asked key) (eventsOf p)) ∙ simp (guid-words (templatesOf p)))
+      (flat-map (λ e. guidAtOffset (map (templateWords (length qs)) (templatesOf p)) (wordOf EVENT-TEMPLATE e)) eventWords (those (asked key) (eventsOf p)) ∙ simp (guid-words (length qs) (templatesOf p)))
 
   guids-join : (ps : List Provider) → All (λ p. All Known (kept (p .elements))) ps
       → once [] (flat (foundOf ps) (positions (λ p. alike (take GUID p) (guidWords (key .guid))) 0 (map providerWords ps))) ≡ join ps key
@@ -184,6 +184,14 @@ module _ (bytes words capacities : List ℕ) (c : Crim) (e : reading bytes words
       rw (taken bytes words capacities c e n (place TABLES) (omega arith))
       (tables-fit (counted (lists ps)) none (ownedTables 0 ps) refl (rw (owned-tables 0 ps) (tables-most ps)) (owned-known 0 _ ps (omega arith) (known bytes c (read bytes words capacities c e .found))))
 
+  pub tables-owned : (let ts = entriesOf (held words capacities (done c)) capacities (counted (lists (c .providers))) TEMPLATES in
+      tablesOwn ts (entriesOf (held words capacities (done c)) capacities (counted (lists (c .providers))) TABLES) ≡ true)
+  unfolding lists
+  tables-owned =
+      let ps = c .providers in
+      rw (taken bytes words capacities c e n (place TABLES) (omega arith), taken bytes words capacities c e n (place TEMPLATES) (omega arith))
+      (tables-own (length ps) none [] (ownedTables 0 ps) refl refl (owned-known 0 (length ps) ps (omega arith) (known bytes c (read bytes words capacities c e .found))))
+
   guids-here : (key : Key) → guidsOf (held words capacities (done c)) capacities (counted (lists (c .providers))) key ≡ join (c .providers) key
   unfolding guidsOf lists
   guids-here key =
@@ -192,13 +200,13 @@ module _ (bytes words capacities : List ℕ) (c : Crim) (e : reading bytes words
       (guids-join key (c .providers) (known bytes c (read bytes words capacities c e .found)))
 
   -- by offset: never 8, and 10 only for a range past the list
-  pub offset-joins : (first count offset : ℕ) → byOffset (held words capacities (done c)) capacities (counted (lists (c .providers))) first count offset
+  pub offset-joins : (provider first count offset : ℕ) → byOffset (held words capacities (done c)) capacities (counted (lists (c .providers))) provider first count offset
       ≡ (let ts = getD (lists (c .providers)) (place TEMPLATES) [] in
       choose (leb (first + count) (length ts))
-      (numbered (position (λ t. eqb (wordOf TEMPLATE-OFFSET t) offset) first (take count (drop first ts))))
+      (numbered (position (matches provider offset) first (take count (drop first ts))))
       (template.Refused (own 10)))
   unfolding byOffset lists
-  offset-joins first count offset = rw (lent-still, counts-room, taken bytes words capacities c e n (place TEMPLATES) (omega arith))
+  offset-joins provider first count offset = rw (lent-still, counts-room, taken bytes words capacities c e n (place TEMPLATES) (omega arith))
 
   -- by key: never 10, and else 8 only for the lent list itself; the GUIDs are those of the join of what was read
   pub key-joins : (key : Key) (lent : List ℕ) → byKey (held words capacities (done c)) capacities (counted (lists (c .providers))) key lent
@@ -206,7 +214,7 @@ module _ (bytes words capacities : List ℕ) (c : Crim) (e : reading bytes words
       let found = join (c .providers) key in
       choose (leb capacity 65536) (choose (leb (length found) capacity) (done found) (refused (too-small GUIDS capacity))) (refused (own 8)))
   unfolding byKey
-  key-joins key lent = rw (lent-still, counts-room, tables-join, guids-here key)
+  key-joins key lent = rw (lent-still, counts-room, tables-join, tables-owned, guids-here key)
 
 -- The same in the terms of what `read` promises: where its answer is 0, the bytes are a block, and a lookup over the words that it leaves
 -- and the numbers that it tells gives the join of what the block holds.

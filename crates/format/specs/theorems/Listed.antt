@@ -29,22 +29,35 @@ owned-flat {B} items n (p ∷ ps) =
     flat-append f (owned n (kept (p .elements))) (ownedTables (suc n) ps)
     ∙ rw (flat-map f (λ t. record { provider = n; table = t }) (kept (p .elements)), owned-flat items (suc n) ps)
 
-owned-map : {B : Type 0} (words : B → Entry) (items : Rows → List B) (ps : List Provider)
-    → flat (λ o. map words (items (o .table .rows))) (ownedTables 0 ps) ≡ map words (flat (of-tables items) ps)
-owned-map words items ps = sym (map-flat words (λ o. items (o .table .rows)) (ownedTables 0 ps)) ∙ ap (map words) (owned-flat items 0 ps)
+-- a list that has words of what each table has, with the number of the table's provider
+abbrev pub ownedWords : {B : Type 0} → (ℕ → B → Entry) → (Rows → List B) → ℕ → List Provider → List Entry
+ownedWords words items n ps = flat (λ o. map (words (o .provider)) (items (o .table .rows))) (ownedTables n ps)
 
--- each list as the words of its entries, one entry after another; in lists 4, 7, 10 and 12 the words go by what was before
+-- of a provider, and then of the others
+pub owned-then : {B : Type 0} (words : ℕ → B → Entry) (items : Rows → List B) (n : ℕ) (p : Provider) (ps : List Provider)
+    → ownedWords words items n (p ∷ ps) ≡ map (words n) (of-tables items p) ++ ownedWords words items (suc n) ps
+unfolding ownedTables
+owned-then words items n p ps =
+    let f : Owned → List Entry = λ o. map (words (o .provider)) (items (o .table .rows)) in
+    flat-append f (owned n (kept (p .elements))) (ownedTables (suc n) ps)
+    ∙ rw (flat-map f (λ t. record { provider = n; table = t }) (kept (p .elements)), map-flat (words n) (λ t. items (t .rows)) (kept (p .elements)))
+
+-- list 8 is one, of the entries of each table's maps
+owned-entries : (os : List Owned) → flat (λ m. map mapEntryWords (m .entries)) (flat (λ o. mapsIn (o .table .rows)) os) ≡ flat (λ o. map mapEntryWords (entriesIn (o .table .rows))) os
+owned-entries os = flat-flat (λ m. map mapEntryWords (m .entries)) (λ o. mapsIn (o .table .rows)) os ∙ simp (map-flat mapEntryWords (λ (m : Mapped). m .entries))
+
+-- each list as the words of its entries, one entry after another; in lists 4, 7 and 12 the words go by what was before
 abbrev pub itemized : List Provider → List (List Entry)
 itemized ps =
     map providerWords (flat (λ p. p ∷ []) ps)
     ∷ map descriptorWords (flat (λ p. p .descriptors) ps)
     ∷ map unknown2Words (flat (λ p. p .unknown2) ps)
     ∷ tableEntries none (ownedTables 0 ps)
-    ∷ map definitionWords (flat (of-tables definitionsIn) ps)
-    ∷ map eventWords (flat (of-tables eventsIn) ps)
+    ∷ ownedWords (λ n. definitionWords) definitionsIn 0 ps
+    ∷ ownedWords (λ n. eventWords) eventsIn 0 ps
     ∷ mapList 0 (flat (of-tables mapsIn) ps)
-    ∷ map mapEntryWords (flat (of-tables entriesIn) ps)
-    ∷ map templateWords (flat (of-tables templatesIn) ps)
+    ∷ ownedWords (λ n. mapEntryWords) entriesIn 0 ps
+    ∷ ownedWords templateWords templatesIn 0 ps
     ∷ ownedUnknowns 0 ps
     ∷ itemList 0 (flat (of-tables templatesIn) ps)
     ∷ []
@@ -61,12 +74,8 @@ lists-itemized ps =
       flat-single ps,
       map-flat descriptorWords (λ p. p .descriptors) ps,
       map-flat unknown2Words (λ p. p .unknown2) ps,
-      owned-map definitionWords definitionsIn ps,
-      owned-map eventWords eventsIn ps,
+      owned-entries (ownedTables 0 ps),
       owned-flat mapsIn 0 ps,
-      ← all-inner (λ m. m .entries) mapsIn ps,
-      map-flat mapEntryWords (λ m. m .entries) (flat (of-tables mapsIn) ps),
-      owned-map templateWords templatesIn ps,
       owned-flat templatesIn 0 ps,
     )
 
@@ -79,12 +88,6 @@ parts-by l words none more n b [] = none n b
 parts-by l words none more n b (p ∷ ps) = more n b p ps ∙ ap (λ (r : List ℕ). part l n b p ++ r) (parts-by l words none more (suc n) (passed l b p) ps)
 
 -- words that do not go by what was before
-plain-tables : {B : Type 0} (l : ℕ) (words : B → List ℕ) (items : Rows → List B) → ((n : ℕ) (b : List ℕ) (t : Table) → flat words (items (t .rows)) ≡ tablePart l n b t)
-    → (n : ℕ) (b : List ℕ) (ts : List Table) → flat words (flat (λ t. items (t .rows)) ts) ≡ tableParts l n b ts
-unfolding flat tableParts
-plain-tables l words items h n b [] = refl
-plain-tables l words items h n b (t ∷ ts) = flat-append words (items (t .rows)) _ ∙ rw (h n b t, plain-tables l words items h n (behind l b t) ts)
-
 plain-parts : {B : Type 0} (l : ℕ) (words : B → List ℕ) (items : Provider → List B) → ((n : ℕ) (b : List ℕ) (p : Provider) → flat words (items p) ≡ part l n b p)
     → (n : ℕ) (b : List ℕ) (ps : List Provider) → flat (λ e. e) (map words (flat items ps)) ≡ parts l n b ps
 unfolding flat
@@ -92,10 +95,21 @@ plain-parts l words items h n b ps =
     flat-map (λ e. e) words (flat items ps)
     ∙ parts-by l (λ n b ps. flat words (flat items ps)) (λ n b. refl) (λ n b p ps. flat-append words (items p) (flat items ps) ∙ rw (h n b p)) n b ps
 
-table-parts : {B : Type 0} (l : ℕ) (words : B → List ℕ) (items : Rows → List B) → ((n : ℕ) (b : List ℕ) (t : Table) → flat words (items (t .rows)) ≡ tablePart l n b t)
-    → ((n : ℕ) (b : List ℕ) (p : Provider) → tableParts l n b (kept (p .elements)) ≡ part l n b p) → (n : ℕ) (b : List ℕ) (ps : List Provider)
-    → flat (λ e. e) (map words (flat (of-tables items) ps)) ≡ parts l n b ps
-table-parts l words items h g = plain-parts l words (of-tables items) (λ n b p. plain-tables l words items h n b (kept (p .elements)) ∙ g n b p)
+-- words that go by their provider's number alone
+module _ {B : Type 0} (l : ℕ) (words : ℕ → B → Entry) (items : Rows → List B)
+    (has : (n : ℕ) (b : List ℕ) (t : Table) → flat (words n) (items (t .rows)) ≡ tablePart l n b t)
+    (all : (n : ℕ) (b : List ℕ) (p : Provider) → tableParts l n b (kept (p .elements)) ≡ part l n b p) where
+  tables-of : (n : ℕ) (b : List ℕ) (ts : List Table) → flat (words n) (flat (λ t. items (t .rows)) ts) ≡ tableParts l n b ts
+  unfolding flat tableParts
+  tables-of n b [] = refl
+  tables-of n b (t ∷ ts) = flat-append (words n) (items (t .rows)) _ ∙ rw (has n b t, tables-of n (behind l b t) ts)
+
+  table-parts : (n : ℕ) (b : List ℕ) (ps : List Provider) → flat (λ e. e) (ownedWords words items n ps) ≡ parts l n b ps
+  unfolding flat ownedTables
+  table-parts =
+      parts-by l (λ n b ps. flat (λ e. e) (ownedWords words items n ps)) (λ n b. refl)
+      (λ n b p ps. ap (flat (λ e. e)) (owned-then words items n p ps) ∙ flat-append (λ e. e) (map (words n) (of-tables items p)) _
+      ∙ rw (flat-map (λ e. e) (words n) (of-tables items p), tables-of n b (kept (p .elements)), all n b p))
 
 -- list 4: a table's first entry goes by what is written
 abbrev tablesFrom : List ℕ → List Owned → List ℕ
@@ -203,13 +217,13 @@ listed ps =
           (
             tables-parts 0 none ps,
             (
-              table-parts DEFINITIONS definitionWords definitionsIn (λ n b t. refl) (λ n b p. refl) 0 none ps,
+              table-parts DEFINITIONS (λ n. definitionWords) definitionsIn (λ n b t. refl) (λ n b p. refl) 0 none ps,
               (
-                table-parts EVENTS eventWords eventsIn (λ n b t. refl) (λ n b p. refl) 0 none ps,
+                table-parts EVENTS (λ n. eventWords) eventsIn (λ n b t. refl) (λ n b p. refl) 0 none ps,
                 (
                   maps-parts ps,
                   (
-                    table-parts ENTRIES mapEntryWords entriesIn (λ n b t. flat-flat mapEntryWords (λ m. m .entries) (mapsIn (t .rows))) (λ n b p. refl) 0 none ps,
+                    table-parts ENTRIES (λ n. mapEntryWords) entriesIn (λ n b t. flat-flat mapEntryWords (λ m. m .entries) (mapsIn (t .rows))) (λ n b p. refl) 0 none ps,
                     (
                       table-parts TEMPLATES templateWords templatesIn (λ n b t. refl) (λ n b p. refl) 0 none ps,
                       (unknown-parts 0 none ps, (items-parts ps, tt)),

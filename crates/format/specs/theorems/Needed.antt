@@ -11,10 +11,10 @@ use Rattle.format.specs.Area.{Row, rows, none}
 use Rattle.format.specs.Template.{Template}
 use Rattle.format.specs.Map.{Mapped}
 use Rattle.format.specs.Provider.{Rows, definitions, events, maps, templates, Table, Provider}
-use Rattle.format.specs.Lists.{kept, unknowns, Owned, ownedTables, ownedUnknowns, after, tableEntries, definitionsIn, eventsIn, mapsIn, templatesIn, mapList, itemList, lists}
+use Rattle.format.specs.Lists.{Entry, kept, unknowns, Owned, ownedTables, ownedUnknowns, after, tableEntries, definitionsIn, eventsIn, mapsIn, templatesIn, mapList, itemList, lists}
 use Rattle.format.specs.Answer.{counted, capped}
 use Rattle.format.specs.steps.Needs.{total, afterAll, of-tables, entriesIn, itemsIn, has, needsOf, plus, modest, needsAll}
-use Rattle.format.specs.theorems.Listed.{all-inner, lists-itemized}
+use Rattle.format.specs.theorems.Listed.{ownedWords, owned-then, all-inner, lists-itemized}
 
 -- how many entries each list has of some tables, with so many before; written out for each row
 module _ (a b c d h : ℕ) (others : List ℕ) where
@@ -75,6 +75,12 @@ unfolding flat ownedUnknowns
 ownedUnknowns-length n [] = refl
 ownedUnknowns-length n (p ∷ ps) = simp (length-append, length-map, ownedUnknowns-length (suc n) ps)
 
+pub ownedWords-length : {B : Type 0} (words : ℕ → B → Entry) (items : Rows → List B) (n : ℕ) (ps : List Provider)
+    → length (ownedWords words items n ps) ≡ length (flat (of-tables items) ps)
+unfolding flat ownedTables
+ownedWords-length words items n [] = refl
+ownedWords-length words items n (p ∷ ps) = simp (owned-then words items n p ps, length-append, length-map, ownedWords-length words items (suc n) ps)
+
 -- what all have is what is in a row of all of it
 pub total-length : {A B : Type 0} (items : A → List B) (vs : List A) → total (λ a. length (items a)) vs ≡ length (flat items vs)
 unfolding flat total
@@ -85,7 +91,7 @@ total-length items (a ∷ vs) = rw (length-append, total-length items vs)
 pub counted-has : (ps : List Provider) → counted (lists ps) ≡ map (λ f. total f ps) has
 counted-has ps =
     rw (lists-itemized ps)
-    (simp (length-map, tableEntries-length, mapList-length, ownedTables-length, ownedUnknowns-length, total-length (λ (p : Provider). p ∷ []), total-length (λ (p : Provider). p .descriptors), total-length (λ (p : Provider). p .unknown2), total-length (λ (p : Provider). kept (p .elements)), total-length (λ (p : Provider). unknowns (p .elements)), total-length (of-tables definitionsIn), total-length (of-tables eventsIn), total-length (of-tables mapsIn), total-length (of-tables entriesIn), total-length (of-tables templatesIn), itemList-length, all-inner (λ (t : Template). t .items) templatesIn, total-length (of-tables itemsIn)))
+    (simp (length-map, tableEntries-length, ownedWords-length, mapList-length, ownedTables-length, ownedUnknowns-length, total-length (λ (p : Provider). p ∷ []), total-length (λ (p : Provider). p .descriptors), total-length (λ (p : Provider). p .unknown2), total-length (λ (p : Provider). kept (p .elements)), total-length (λ (p : Provider). unknowns (p .elements)), total-length (of-tables definitionsIn), total-length (of-tables eventsIn), total-length (of-tables mapsIn), total-length (of-tables entriesIn), total-length (of-tables templatesIn), itemList-length, all-inner (λ (t : Template). t .items) templatesIn, total-length (of-tables itemsIn)))
 
 -- what some providers need, with what is needed before them
 unfoldable added : List ℕ → List (Provider → ℕ) → List Provider → List ℕ

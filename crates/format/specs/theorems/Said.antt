@@ -70,15 +70,15 @@ offset-by true true ns h = h
 offset-by true false ns h = refl
 offset-by false b ns h = refl
 
-pub offset-told : (words capacities counts : List ℕ) (first count offset : ℕ) → templateTold (byOffset words capacities counts first count offset)
+pub offset-told : (words capacities counts : List ℕ) (provider first count offset : ℕ) → templateTold (byOffset words capacities counts provider first count offset)
     ≡ choose (lent-enough capacities words)
     (choose (counts-fit counts capacities && leb (first + count) (of TEMPLATES counts))
-    (done (position (λ t. eqb (wordOf format.Entry.TEMPLATE-OFFSET t) offset) first (take count (drop first (entriesOf words capacities counts TEMPLATES)))))
+    (done (position (format.Lookup.matches provider offset) first (take count (drop first (entriesOf words capacities counts TEMPLATES)))))
     (refused (own 10)))
     (refused (own 8))
 unfolding byOffset
-offset-told words capacities counts first count offset =
-    offset-by (lent-enough capacities words) (counts-fit counts capacities && leb (first + count) (of TEMPLATES counts)) _ (number-told (λ t. eqb (wordOf format.Entry.TEMPLATE-OFFSET t) offset) first (take count (drop first (entriesOf words capacities counts TEMPLATES))))
+offset-told words capacities counts provider first count offset =
+    offset-by (lent-enough capacities words) (counts-fit counts capacities && leb (first + count) (of TEMPLATES counts)) _ (number-told (format.Lookup.matches provider offset) first (take count (drop first (entriesOf words capacities counts TEMPLATES))))
 
 found-back : (r : format.declared.TemplateFound.TemplateFound) → r ≡ answer numbered format.declared.TemplateFound.the-variants.Refused (templateTold r)
 found-back r = elim r [ format.declared.TemplateFound.the-variants.Number n ↦ refl | format.declared.TemplateFound.the-variants.Nothing ↦ refl | format.declared.TemplateFound.the-variants.Refused q ↦ refl ]

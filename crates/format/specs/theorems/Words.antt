@@ -3,7 +3,7 @@ use mathlib.Core.Path.{_≡_, refl}
 use mathlib.Core.List.{List, [], _∷_}
 use Prim.Native.Nat.{ℕ}
 use lib.ListN.{length, take, drop}
-use Rattle.format.specs.Entry.{TABLE-PROVIDER, TABLE-KIND, TABLE-FIRST, TABLE-COUNT, GUID, KEY, EVENT-TEMPLATE, TEMPLATE-OFFSET, TEMPLATE-SIZE, TEMPLATE-GUID, TEMPLATE-START, TEMPLATE-LENGTH}
+use Rattle.format.specs.Entry.{TABLE-PROVIDER, TABLE-KIND, TABLE-FIRST, TABLE-COUNT, GUID, KEY, EVENT-TEMPLATE, TEMPLATE-PROVIDER, TEMPLATE-OFFSET, TEMPLATE-SIZE, TEMPLATE-GUID, TEMPLATE-START, TEMPLATE-LENGTH}
 use Rattle.format.specs.Area.{of}
 use Rattle.format.specs.Provider.{Provider}
 use Rattle.format.specs.Lists.{guidWords, providerWords, Owned, listOf, rowCount, tableWords, eventWords, templateWords}
@@ -25,10 +25,10 @@ event-key e = refl
 event-template : (e : Event) → wordOf EVENT-TEMPLATE (eventWords e) ≡ e .template
 event-template e = refl
 
-template-words : (t : Template) → wordOf TEMPLATE-OFFSET (templateWords t) ∷ wordOf TEMPLATE-SIZE (templateWords t)
-    ∷ wordOf TEMPLATE-START (templateWords t) ∷ wordOf TEMPLATE-LENGTH (templateWords t) ∷ []
-    ≡ t .offset ∷ t .size ∷ t .start ∷ t .length ∷ []
-template-words t = refl
+template-words : (p : ℕ) (t : Template) → wordOf TEMPLATE-PROVIDER (templateWords p t) ∷ wordOf TEMPLATE-OFFSET (templateWords p t)
+    ∷ wordOf TEMPLATE-SIZE (templateWords p t) ∷ wordOf TEMPLATE-START (templateWords p t) ∷ wordOf TEMPLATE-LENGTH (templateWords p t) ∷ []
+    ≡ p ∷ t .offset ∷ t .size ∷ t .start ∷ t .length ∷ []
+template-words p t = refl
 
-template-guid : (t : Template) → take GUID (drop TEMPLATE-GUID (templateWords t)) ≡ guidWords (t .guid)
-template-guid t = refl
+template-guid : (p : ℕ) (t : Template) → take GUID (drop TEMPLATE-GUID (templateWords p t)) ≡ guidWords (t .guid)
+template-guid p t = refl
