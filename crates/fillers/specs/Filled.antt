@@ -98,35 +98,35 @@ module _ (k at : ℕ) (h : Header) (s : List ℕ) (v : verdict (run (tableAt k a
   abbrev here : Table
   here = fine-value found v .0
 
-  -- a list whose entries are words of what a filler reads, as many as the header says
-  abbrev Fills : {B : Type 0} → ℕ → (B → List ℕ) → Outcome (List B) → Type 0
+  -- a list whose entries are words of what a filler reads, by its provider's number, as many as the header says
+  abbrev Fills : {B : Type 0} → ℕ → (ℕ → B → List ℕ) → Outcome (List B) → Type 0
   Fills l words o =
       (n : ℕ) (before area : List ℕ) → TablesRoom l n before (only found) area
       → (verdict o ≡ verdicts.Fine)
       × (width l * h .count ≤ length area)
-      × ((area' : List ℕ) → area' ≡ laid area 0 (flat words (values o)) → TablesStored l n before (only found) area (width l * h .count) before area')
+      × ((area' : List ℕ) → area' ≡ laid area 0 (flat (words n) (values o)) → TablesStored l n before (only found) area (width l * h .count) before area')
 
-  plain : {B : Type 0} (l : ℕ) (words : B → List ℕ) (items : Rows → List B) → ((b : B) → length (words b) ≡ width l)
-      → ((n : ℕ) (before : List ℕ) → tablePart l n before here ≡ flat words (items (here .rows))) → ((before : List ℕ) → behind l before here ≡ before)
+  plain : {B : Type 0} (l : ℕ) (words : ℕ → B → List ℕ) (items : Rows → List B) → ((n : ℕ) (b : B) → length (words n b) ≡ width l)
+      → ((n : ℕ) (before : List ℕ) → tablePart l n before here ≡ flat (words n) (items (here .rows))) → ((before : List ℕ) → behind l before here ≡ before)
       → (o : Outcome (List B)) → o ≡ done (items (here .rows)) → length (items (here .rows)) ≡ h .count → Fills l words o
   plain l words items wide has keeps o e c n before area r =
-      let long = length-flat words (width l) wide (items (here .rows)) ∙ ap (λ m. width l * m) c in (
+      let long = length-flat (words n) (width l) (wide n) (items (here .rows)) ∙ ap (λ m. width l * m) c in (
         ap verdict e,
         omega (arith, roomed l n before area _ r (has n before), long),
-        λ area' g. stored l n before area area' before _ _ (has n before) (sym long) (sym (keeps before)) (g ∙ ap (λ x. laid area 0 (flat words (values x))) e),
+        λ area' g. stored l n before area area' before _ _ (has n before) (sym long) (sym (keeps before)) (g ∙ ap (λ x. laid area 0 (flat (words n) (values x))) e),
       )
 
-  pub fills-definitions : holdsDefinitions k ≡ true → Fills DEFINITIONS definitionWords (run (definitionsAt k at h) s)
+  pub fills-definitions : holdsDefinitions k ≡ true → Fills DEFINITIONS (λ n. definitionWords) (run (definitionsAt k at h) s)
   unfolding tablePart
   fills-definitions q =
       let x = definitions-in k at h s here (fine-value found v .1) q in
-      plain DEFINITIONS definitionWords definitionsIn (λ d. refl) (λ n before. refl) (λ before. refl) _ (x .0) (x .1)
+      plain DEFINITIONS (λ n. definitionWords) definitionsIn (λ n d. refl) (λ n before. refl) (λ before. refl) _ (x .0) (x .1)
 
-  pub fills-events : k ≡ EVNT → Fills EVENTS eventWords (run (many eventAt (step 48) (h .count) (at + 16)) s)
+  pub fills-events : k ≡ EVNT → Fills EVENTS (λ n. eventWords) (run (many eventAt (step 48) (h .count) (at + 16)) s)
   unfolding tablePart
   fills-events q =
       let x = events-in k at h s here (fine-value found v .1) q in
-      plain EVENTS eventWords eventsIn (λ d. refl) (λ n before. refl) (λ before. refl) _ (x .0) (x .1)
+      plain EVENTS (λ n. eventWords) eventsIn (λ n d. refl) (λ n before. refl) (λ before. refl) _ (x .0) (x .1)
 
   pub events-room : k ≡ EVNT → at + 16 + 48 * h .count ≤ length s
   events-room q = events-in k at h s here (fine-value found v .1) q .2
@@ -135,7 +135,7 @@ module _ (k at : ℕ) (h : Header) (s : List ℕ) (v : verdict (run (tableAt k a
   unfolding tablePart
   fills-templates q =
       let x = templates-in k at h s here (fine-value found v .1) q in
-      plain TEMPLATES templateWords templatesIn (λ d. refl) (λ n before. refl) (λ before. refl) _ (x .0) (x .1)
+      plain TEMPLATES templateWords templatesIn (λ n t. refl) (λ n before. refl) (λ before. refl) _ (x .0) (x .1)
 
   -- list 8: the entries of maps
   pub fills-entries : k ≡ MAPS → (n : ℕ) (before area : List ℕ) → TablesRoom ENTRIES n before (only found) area

@@ -208,7 +208,7 @@ fn put_rows(
             template::fill_items(b, at, h, first, area)
         }
         _ => {
-            template::fill(b, at, h, area);
+            template::fill(b, at, h, number, area);
             width::TEMPLATES * count
         }
     }

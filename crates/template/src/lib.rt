@@ -167,17 +167,18 @@ fn binxml(start: BlobPlace, size: u32, offset: BlobPlace) -> u32
     offset.0 - start.0
 }
 
-// Stores the words of a TEMP of some size that `check_temp` found fine, from a place of the area on.
-fn put(b: &[u8], at: usize, size: u32, area: &mut [u32], to: usize)
+// Stores the words of a TEMP of some size that `check_temp` found fine, with its provider's number, from a place of the area on.
+fn put(b: &[u8], at: usize, size: u32, provider: u32, area: &mut [u32], to: usize)
     requires { ⌜ (at + 40 ≤ length (now b)) × (length (now b) ≤ 16777216) × (40 ≤ size) ⌝ }
     requires { ⌜ to + width TEMPLATES ≤ length (now area) ⌝ }
-    ensures { λ _. ⌜ ((is : List Item) → now (area .exit) ≡ laid (now (area .entry)) to (templateWords (templateOf (now (b .entry)) at size is))) ⌝ }
+    ensures { λ _. ⌜ ((is : List Item) → now (area .exit) ≡ laid (now (area .entry)) to (templateWords provider (templateOf (now (b .entry)) at size is))) ⌝ }
 {
     let temp = at as u32;
     let start = temp + 40;
     let items = blob::word(b, at + 16);
     let g = guid_at(b, at + 24);
     let entry = [
+        provider,
         temp,
         size,
         blob::word(b, at + 8),
@@ -194,12 +195,12 @@ fn put(b: &[u8], at: usize, size: u32, area: &mut [u32], to: usize)
     words::put(area, to, &entry);
 }
 
-// Stores the words of n TEMPs that `check_until` found fine. It steps as that does.
-fn fill_until(b: &[u8], end: usize, start: usize, n: u32, area: &mut [u32])
+// Stores the words of n TEMPs that `check_until` found fine, of the provider with a number. It steps as that does.
+fn fill_until(b: &[u8], end: usize, start: usize, n: u32, provider: u32, area: &mut [u32])
     requires { ⌜ (start ≤ end) × (end ≤ length (now b)) × (length (now b) ≤ 16777216) ⌝ }
     requires { ⌜ width TEMPLATES * n ≤ length (now area) ⌝ }
     requires { ⌜ verdict (run (many (templateAt (until end)) next n start) (now b)) ≡ Verdict.Fine ⌝ }
-    ensures { λ _. ⌜ now (area .exit) ≡ laid (now (area .entry)) 0 (flat templateWords (values (run (many (templateAt (until end)) next n start) (now (b .entry))))) ⌝ }
+    ensures { λ _. ⌜ now (area .exit) ≡ laid (now (area .entry)) 0 (flat (templateWords provider) (values (run (many (templateAt (until end)) next n start) (now (b .entry))))) ⌝ }
 {
     let mut at = start;
     let mut left = n;
@@ -208,7 +209,7 @@ fn fill_until(b: &[u8], end: usize, start: usize, n: u32, area: &mut [u32])
     while 0 < left {
         let size = blob::word(b, at + 4);
         if size == same {
-            put(b, at, same, area, to);
+            put(b, at, same, provider, area, to);
             at += same as usize;
             left -= 1;
             to += width::TEMPLATES;
@@ -230,14 +231,14 @@ fn region_of(b: &[u8], at: usize, h: Header) -> usize
     }
 }
 
-// Stores the words of the TEMPs of a TTBL that `check` found fine.
-pub fn fill(b: &[u8], at: usize, h: Header, area: &mut [u32])
+// Stores the words of the TEMPs of a TTBL that `check` found fine, of the provider with a number.
+pub fn fill(b: &[u8], at: usize, h: Header, provider: u32, area: &mut [u32])
     requires { ⌜ (at + 12 ≤ length (now b)) × (length (now b) ≤ 16777216) ⌝ }
     requires { ⌜ width TEMPLATES * h .count ≤ length (now area) ⌝ }
     requires { ⌜ verdict (run (templatesAt at h) (now b)) ≡ Verdict.Fine ⌝ }
-    ensures { λ _. ⌜ now (area .exit) ≡ laid (now (area .entry)) 0 (flat templateWords (values (run (templatesAt at h) (now (b .entry))))) ⌝ }
+    ensures { λ _. ⌜ now (area .exit) ≡ laid (now (area .entry)) 0 (flat (templateWords provider) (values (run (templatesAt at h) (now (b .entry))))) ⌝ }
 {
-    fill_until(b, region_of(b, at, h), at + 12, h.count, area);
+    fill_until(b, region_of(b, at, h), at + 12, h.count, provider, area);
 }
 
 // Stores the words of the items of n TEMPs that `check_until` found fine, the first of which is the template with a number; hands back how

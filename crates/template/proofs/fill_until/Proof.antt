@@ -16,15 +16,15 @@ use Rattle.template.proofs.fill_until.Statement.{statement}
 use Rattle.template.proofs.fill_until.Tie as tie
 
 abbrev Inv-loop : tie.InvT-loop
-Inv-loop b end start n area₀ at₀ left₀ same₀ to₀ area at left same to =
+Inv-loop b end start n provider area₀ at₀ left₀ same₀ to₀ area at left same to =
     (at ≤ end)
     × (to + width TEMPLATES * left ≤ length area)
     × (length area ≡ length area₀)
     × (verdict (run (many (templateAt (until end)) next left at) b) ≡ verdicts.Fine)
-    × (rest (templateAt (until end)) next templateWords b area₀ n start 0 ≡ rest (templateAt (until end)) next templateWords b area left at to)
+    × (rest (templateAt (until end)) next (templateWords provider) b area₀ n start 0 ≡ rest (templateAt (until end)) next (templateWords provider) b area left at to)
 
 abbrev μ-loop : tie.MeasureT-loop
-μ-loop b end start n area₀ at₀ left₀ same₀ to₀ area at left same to = turns b at left same
+μ-loop b end start n provider area₀ at₀ left₀ same₀ to₀ area at left same to = turns b at left same
 
 word-requires : tie.Need-word-requires Inv-loop μ-loop
 word-requires c κs = let f = first-fine _ _ _ _ _ refl (c .loop-test .taken) (c .before .loop .inv .3) .stands in omega arith
@@ -47,17 +47,17 @@ loop-again c =
     let inv = m .before .loop .inv in
     let f = first-fine _ _ _ _ _ (sym (e .if1 .taken) ∙ e .before .word .ensures) (m .loop-test .taken) (inv .3) in (
       f .stands .ends,
-      omega (arith, p .put .kept .1 .1 .1 .0),
-      p .put .kept .1 .1 .1 .0 ∙ inv .2,
+      omega (arith, p .put .kept .1 .1 .1 .1 .0),
+      p .put .kept .1 .1 .1 .1 .0 ∙ inv .2,
       sym (many-more _ next _ _ _ _ (m .loop-test .taken) (f .found)) ∙ inv .3,
-      inv .4 ∙ rest-more _ next templateWords _ _ _ _ _ _ _ (p .put .ensures (f .items)) (m .loop-test .taken) (f .found) (inv .3),
+      inv .4 ∙ rest-more _ next (templateWords _) _ _ _ _ _ _ _ (p .put .ensures (f .items)) (m .loop-test .taken) (f .found) (inv .3),
     )
 
 loop-less-2 : tie.Need-loop-less-2 Inv-loop μ-loop
 loop-less-2 c = turns-again _ _ _ _ _ (c .before .word .ensures) (c .if1 .left)
 
 returns : tie.Need-returns Inv-loop μ-loop
-returns c = sym (c .before .loop .inv .4 ∙ rest-none _ next templateWords _ _ _ _ _ (c .loop-test .left))
+returns c = sym (c .before .loop .inv .4 ∙ rest-none _ next (templateWords _) _ _ _ _ _ (c .loop-test .left))
 
 pub fill-until-spec : {M : Type 1} → statement M
 fill-until-spec =
