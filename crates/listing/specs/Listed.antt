@@ -5,8 +5,8 @@ use mathlib.Core.Bool.{Bool, true, false}
 use mathlib.Core.List.{List, [], _∷_, _++_, map, append-nil}
 use native.Mathlib.Nat.{add-zero, zero-add}
 use native.Mathlib.Omega.{arith}
-use lib.ListN.{length, getD, set, length-set, length-map, length-take, take, replicate}
-use lib.Seq.{take-all, ext-getD, getD-take, getD-set-same, getD-set-other, getD-append-add}
+use lib.ListN.{length, getD, set, length-set, length-map, length-take, take, drop, replicate}
+use lib.Seq.{take-all, ext-getD, getD-take, getD-drop, getD-set-same, getD-set-other, getD-append-add}
 use lib.Dec.{leb}
 use borrow.Author.Tests.{le-leb, lt-leb, leb-true, leb-false}
 use Rattle.blob.specs.Reading.{Outcome, done, refused}
@@ -15,8 +15,10 @@ use Rattle.blob.specs.Laws.{same, choose-done, then-done, length-flat}
 use Rattle.format.specs.Crim.{Crim}
 use Rattle.format.specs.Provider.{Provider}
 use Rattle.format.specs.Area.{PROVIDERS, EVENTS, TEMPLATES, Row, rows, place, width, of}
-use Rattle.format.specs.Entry.{TEMPLATE-OFFSET, TEMPLATE-SIZE, TEMPLATE-START, TEMPLATE-LENGTH}
+use Rattle.format.specs.Entry.{TEMPLATE-PROVIDER, TEMPLATE-OFFSET, TEMPLATE-SIZE, TEMPLATE-START, TEMPLATE-LENGTH}
 use Rattle.format.specs.Lists.{Entry, lists, ownedTables, templatesIn, templateWords}
+use Rattle.format.specs.Lookup.{entriesFrom}
+use Rattle.format.specs.theorems.Taken.{taken}
 use Rattle.format.specs.Answer.{areas, lent-enough, reading, answer, filled, held}
 use Rattle.format.specs.Listing.{Piece, templateLine, lines, listing, sixty-four}
 use Rattle.format.specs.theorems.Codes.{refused-code}
@@ -42,57 +44,17 @@ laid-found a p (w ∷ ws) (suc j) h g =
     let e : p + suc j ≡ (p + 1) + j = omega arith in
     ap (λ i. getD (laid (set a p w) (p + 1) ws) i 0) e ∙ laid-found (set a p w) (p + 1) ws j (omega arith) (simp length-set (omega arith))
 
--- the templates of some providers, and their words
-templatesOf : List Provider → List Template
-templatesOf ps = flat (λ o. templatesIn (o .table .rows)) (ownedTables 0 ps)
-
-entries : (ps : List Provider) → getD (lists ps) (place TEMPLATES) [] ≡ map templateWords (templatesOf ps)
-unfolding lists templatesOf
-entries ps = sym (map-flat templateWords (λ o. templatesIn (o .table .rows)) (ownedTables 0 ps))
-
-words-of : (ps : List Provider) → flat (λ e. e) (getD (lists ps) (place TEMPLATES) []) ≡ flat templateWords (templatesOf ps)
-words-of ps = ap (flat (λ e. e)) (entries ps) ∙ flat-map (λ e. e) templateWords (templatesOf ps)
-
--- areas that are filled from a place on leave the words before it
-filled-before : (words : List ℕ) (at : ℕ) (rs : List Row) (cs : List ℕ) (ls : List (List Entry)) (i : ℕ) → i < at → getD (filled words at rs cs ls) i 0 ≡ getD words i 0
-unfolding filled
-filled-before words at [] cs ls i h = refl
-filled-before words at (r ∷ rs) [] ls i h = refl
-filled-before words at (r ∷ rs) (c ∷ cs) [] i h = refl
-filled-before words at (r ∷ rs) (c ∷ cs) (l ∷ ls) i h = filled-before _ (at + c * r .words) rs cs ls i (omega arith) ∙ laid-before words at (flat (λ e. e) l) i h
-
--- a list that its area holds is found in it
-filled-found : (words : List ℕ) (at : ℕ) (rs : List Row) (cs : List ℕ) (ls : List (List Entry)) (i : ℕ) → i < length rs → i < length cs → at + areas rs cs ≤ length words
-    → length (flat (λ e. e) (getD ls i [])) ≤ getD cs i 0 * getD (map (λ r. r .words) rs) i 0
-    → (j : ℕ) → j < length (flat (λ e. e) (getD ls i [])) → getD (filled words at rs cs ls) (at + areas rs (take i cs) + j) 0 ≡ getD (flat (λ e. e) (getD ls i [])) j 0
-unfolding filled areas flat
-filled-found words at [] cs ls i h g w f j k = absurd (omega arith)
-filled-found words at (r ∷ rs) [] ls i h g w f j k = absurd (omega arith)
-filled-found words at (r ∷ rs) (c ∷ cs) [] i h g w f j k = absurd (omega arith)
-filled-found words at (r ∷ rs) (c ∷ cs) (l ∷ ls) zero h g w f j k =
-    rw (add-zero at) (filled-before _ (at + c * r .words) rs cs ls (at + j) (omega arith) ∙ laid-found words at (flat (λ e. e) l) j k (omega arith))
-filled-found words at (r ∷ rs) (c ∷ cs) (l ∷ ls) (suc i) h g w f j k =
-    let e : at + (c * r .words + areas rs (take i cs)) + j ≡ (at + c * r .words) + areas rs (take i cs) + j = omega arith in
-    rw e (filled-found _ (at + c * r .words) rs cs ls i (omega arith) (omega arith) (simp length-laid (omega arith)) f j k)
-
--- list 9 stands in its area of the lent words
-found : (words : List ℕ) (ps : List Provider) → lent ≤ length words → length (templatesOf ps) ≤ 64
-    → (j : ℕ) → j < width TEMPLATES * length (templatesOf ps) → getD (filled words 0 rows sixty-four (lists ps)) (templates-at + j) 0 ≡ getD (flat templateWords (templatesOf ps)) j 0
-unfolding areas
-found words ps w f j h =
-    let n : length (flat (λ e. e) (getD (lists ps) (place TEMPLATES) [])) ≡ width TEMPLATES * length (templatesOf ps) = ap length (words-of ps) ∙ length-flat templateWords (width TEMPLATES) (λ t. refl) (templatesOf ps) in
-    filled-found words 0 rows sixty-four (lists ps) (place TEMPLATES) (omega arith) (omega arith) (omega arith) (omega arith) j (omega arith) ∙ ap (λ (ws : List ℕ). getD ws j 0) (words-of ps)
-
--- the lines of entries that stand in the words from a place on
-lines-of : (words : List ℕ) (ts : List Template) (at : ℕ) → ((j : ℕ) → j < width TEMPLATES * length ts → getD words (at + j) 0 ≡ getD (flat templateWords ts) j 0)
-    → linesFrom words (length ts) at ≡ map templateLine (map templateWords ts)
-unfolding linesFrom flat
-lines-of words [] at h = refl
-lines-of words (t ∷ ts) at h =
+-- the lines of the entries that stand in the words from a place on
+lines-of : (words : List ℕ) (n at : ℕ) → linesFrom words n at ≡ map templateLine (entriesFrom (width TEMPLATES) n at words)
+unfolding linesFrom entriesFrom
+lines-of words zero at = refl
+lines-of words (suc n) at =
     ap₂ (λ (l : List Piece) (ls : List (List Piece)). l ∷ ls)
-    (rw (h TEMPLATE-OFFSET (omega arith), h TEMPLATE-SIZE (omega arith), h TEMPLATE-START (omega arith), h TEMPLATE-LENGTH (omega arith)) refl)
-    (lines-of words ts (at + width TEMPLATES) (λ j g.
-    ap (λ i. getD words i 0) (omega arith) ∙ h (width TEMPLATES + j) (omega arith) ∙ getD-append-add (templateWords t) (flat templateWords ts) j 0))
+    (rw (word TEMPLATE-PROVIDER (omega arith), word TEMPLATE-OFFSET (omega arith), word TEMPLATE-SIZE (omega arith), word TEMPLATE-START (omega arith), word TEMPLATE-LENGTH (omega arith)) refl)
+    (lines-of words n (at + width TEMPLATES))
+  where
+    word : (i : ℕ) → i < width TEMPLATES → getD (take (width TEMPLATES) (drop at words)) i 0 ≡ getD words (at + i) 0
+    word i h = getD-take (width TEMPLATES) (drop at words) i 0 h ∙ getD-drop at words i 0
 
 -- what is told of an accepted block, and that there is room for it
 pub record Told-of (words : List ℕ) (o : Outcome Crim) : Type 0 where
@@ -108,20 +70,17 @@ module _ (bytes words : List ℕ) where
       let k = same (h .0) c (sym (h .1) ∙ reading-crim bytes words sixty-four c e) in
       rw k at (list-fits rows sixty-four (lists (h .0 .providers)) (h .0) c (h .2) (place TEMPLATES) (omega arith) (omega arith))
 
-  pub accepted : (o : Outcome Crim) → reading bytes words sixty-four ≡ o → lent ≤ length words → answer o .code ≡ 0 → Told-of words o
-  unfolding answer held flat lists
-  accepted (done c) e w z =
-      let ps = c .providers in
-      let f = few-of c e in
-      let n : length (getD (lists ps) (place TEMPLATES) []) ≡ length (templatesOf ps) = ap length (entries ps) ∙ simp length-map in
-      let there = lines-of (filled words 0 rows sixty-four (lists ps)) (templatesOf ps) templates-at (found words ps w (omega (arith, f, n))) in
-      let block = line (blockLine (c .header .size) (length (getD (lists ps) (place PROVIDERS) [])) (length (getD (lists ps) (place EVENTS) [])) (length (getD (lists ps) (place TEMPLATES) []))) in
+  pub accepted : (o : Outcome Crim) → reading bytes words sixty-four ≡ o → answer o .code ≡ 0 → Told-of words o
+  unfolding answer areas held lists flat
+  accepted (done c) e z =
+      let ls = lists (c .providers) in
+      let block = line (blockLine (c .header .size) (length (getD ls (place PROVIDERS) [])) (length (getD ls (place EVENTS) [])) (length (getD ls (place TEMPLATES) []))) in
       record {
-        text = ap (λ (ls : List (List Piece)). block ++ rendered ls)
-            (ap (map templateLine) (entries ps) ∙ sym there ∙ ap (λ i. linesFrom (filled words 0 rows sixty-four (lists ps)) i templates-at) (sym n));
-        few = f;
+        text = ap (λ (ts : List (List Piece)). block ++ rendered ts)
+            (ap (map templateLine) (sym (taken bytes words sixty-four c e refl (place TEMPLATES) (omega arith))) ∙ sym (lines-of (held words sixty-four (done c)) (length (getD ls (place TEMPLATES) [])) templates-at));
+        few = few-of c e;
       }
-  accepted (refused r) e w z = absurd (let h = refused-code bytes words sixty-four r e in omega (arith, h, z))
+  accepted (refused r) e z = absurd (let h = refused-code bytes words sixty-four r e in omega (arith, h, z))
 
 refused-line : (o : Outcome Crim) → (answer o .code ≡ 0 → ⊥) → line (refusalLine (answer o .code) (answer o .place)) ≡ rendered (lines o)
 unfolding answer flat
@@ -149,7 +108,7 @@ module _ (bytes : List ℕ) (h : length bytes ≤ 65536) (a : Answer) where
     pub listed-accepted : (words : List ℕ) → words ≡ held (replicate lent 0) sixty-four found-in → a .code ≡ 0
         → (of TEMPLATES (a .counts) ≤ 64) × (acceptedText a words ≡ rendered (listing bytes))
     listed-accepted words g z =
-        let t = accepted bytes (replicate lent 0) found-in refl (omega arith) (rw e at z) in
+        let t = accepted bytes (replicate lent 0) found-in refl (rw e at z) in
         (rw e (t .few), rw (e, g) (sym (t .text)) ∙ ap rendered (sym listed))
 
 -- The program reads no more than 65,537 bytes: what is behind them changes nothing.

@@ -5,7 +5,7 @@ use mathlib.Core.List.{List, [], _∷_, _++_}
 use lib.ListN.{length, getD, take}
 use Rattle.blob.specs.Laid.{laid}
 use Rattle.format.specs.Area.{Row, rows, PROVIDERS, EVENTS, TEMPLATES, place, width, of}
-use Rattle.format.specs.Entry.{TEMPLATE-OFFSET, TEMPLATE-SIZE, TEMPLATE-START, TEMPLATE-LENGTH}
+use Rattle.format.specs.Entry.{TEMPLATE-PROVIDER, TEMPLATE-OFFSET, TEMPLATE-SIZE, TEMPLATE-START, TEMPLATE-LENGTH}
 use Rattle.format.specs.Listing.{Piece, says, number}
 use Rattle.listing.specs.Rendered.{decimal, newline, line, rendered}
 use Rattle.format.specs.declared.Answer.{Answer}
@@ -30,7 +30,8 @@ blockLine size providers events templates =
 -- the line of the template entry that stands at a place of the words, and those of n entries from a place on
 abbrev pub lineAt : List ℕ → ℕ → List Piece
 lineAt words at =
-    says "template" ∷ number (getD words (at + TEMPLATE-OFFSET) 0) ∷ says "size" ∷ number (getD words (at + TEMPLATE-SIZE) 0)
+    says "template" ∷ number (getD words (at + TEMPLATE-OFFSET) 0) ∷ says "provider" ∷ number (getD words (at + TEMPLATE-PROVIDER) 0)
+    ∷ says "size" ∷ number (getD words (at + TEMPLATE-SIZE) 0)
     ∷ says "binxml" ∷ number (getD words (at + TEMPLATE-START) 0) ∷ number (getD words (at + TEMPLATE-LENGTH) 0) ∷ []
 
 unfoldable pub linesFrom : List ℕ → ℕ → ℕ → List (List Piece)

@@ -11,6 +11,7 @@ ghost use Rattle.listing.specs.Put.{Put, fourfold, refusalLine, blockLin
 use format::Answer;
 use format::entry::TEMPLATE_LENGTH;
 use format::entry::TEMPLATE_OFFSET;
+use format::entry::TEMPLATE_PROVIDER;
 use format::entry::TEMPLATE_SIZE;
 use format::entry::TEMPLATE_START;
 use format::list::AREAS;
@@ -28,8 +29,8 @@ const CAPACITY: u32 = 64;
 
 const WORDS: usize = 64 * EACH;
 
-// Room for the longest listing there can be: a line of at most 116 bytes, and 64 of at most 105.
-const ROOM: usize = 8192;
+// Room for the longest listing there can be: a line of at most 116 bytes, and 64 of at most 135.
+const ROOM: usize = 9216;
 
 // Puts some bytes at a place; hands back where they end.
 fn put(bytes: &[u8], out: &mut [u8], at: usize) -> usize
@@ -65,7 +66,7 @@ fn put_number(text: &[u8], n: u64, out: &mut [u8], at: usize) -> usize
     put_decimal(n, out, to)
 }
 
-// The same of a line of four numbers, each behind a text: such are the block's line and the templates'.
+// The same of a line of four numbers, each behind a text: such is the block's line, and a template's behind its offset.
 fn put_line(
     a: &[u8],
     i: u64,
@@ -130,13 +131,14 @@ fn put_block(size: u64, counts: [u32; AREAS], out: &mut [u8]) -> usize
 // The same of the template entry that stands at a place of the words.
 fn put_template(words: &[u32], from: usize, out: &mut [u8], at: usize) -> usize
     requires { ⌜ from + width TEMPLATES ≤ length (now words) ⌝ }
-    requires { ⌜ at + 105 ≤ length (now out) ⌝ }
+    requires { ⌜ at + 135 ≤ length (now out) ⌝ }
     ensures { λ r. ⌜ Put (now (out .entry)) at (lineBytes (lineAt (now (words .entry)) from)) r (now (out .exit)) ⌝ }
-    ensures { λ r. ⌜ r ≤ at + 105 ⌝ }
+    ensures { λ r. ⌜ r ≤ at + 135 ⌝ }
 {
+    let to = put_number(b"template ", wide(words[from + TEMPLATE_OFFSET]), out, at);
     put_line(
-        b"template ",
-        wide(words[from + TEMPLATE_OFFSET]),
+        b" provider ",
+        wide(words[from + TEMPLATE_PROVIDER]),
         b" size ",
         wide(words[from + TEMPLATE_SIZE]),
         b" binxml ",
@@ -144,16 +146,16 @@ fn put_template(words: &[u32], from: usize, out: &mut [u8], at: usize) -> usize
         b" ",
         wide(words[from + TEMPLATE_LENGTH]),
         out,
-        at,
+        to,
     )
 }
 
 // The same of n template entries, one behind the other.
 fn put_templates(words: &[u32], n: u32, out: &mut [u8], at: usize) -> usize
     requires { ⌜ templates-at + width TEMPLATES * n ≤ length (now words) ⌝ }
-    requires { ⌜ at + 105 * n ≤ length (now out) ⌝ }
+    requires { ⌜ at + 135 * n ≤ length (now out) ⌝ }
     ensures { λ r. ⌜ Put (now (out .entry)) at (rendered (linesFrom (now (words .entry)) n templates-at)) r (now (out .exit)) ⌝ }
-    ensures { λ r. ⌜ r ≤ at + 105 * n ⌝ }
+    ensures { λ r. ⌜ r ≤ at + 135 * n ⌝ }
 {
     let mut from = counts::area_at([CAPACITY; AREAS], row::TEMPLATES);
     let mut left = n;
@@ -168,9 +170,9 @@ fn put_templates(words: &[u32], n: u32, out: &mut [u8], at: usize) -> usize
 
 // The same of all lines of an accepted block, by its answer and the words that it was read into.
 fn put_accepted(a: Answer, words: &[u32], out: &mut [u8]) -> usize
-    requires { ⌜ (of TEMPLATES (a .counts) ≤ 64) × (lent ≤ length (now words)) × (8192 ≤ length (now out)) ⌝ }
+    requires { ⌜ (of TEMPLATES (a .counts) ≤ 64) × (lent ≤ length (now words)) × (9216 ≤ length (now out)) ⌝ }
     ensures { λ r. ⌜ Put (now (out .entry)) 0 (acceptedText a (now (words .entry))) r (now (out .exit)) ⌝ }
-    ensures { λ r. ⌜ r ≤ 8192 ⌝ }
+    ensures { λ r. ⌜ r ≤ 9216 ⌝ }
 {
     let counts = a.counts;
     let to = put_block(a.first, counts, out);
@@ -186,9 +188,9 @@ fn read(bytes: &[u8], words: &mut [u32]) -> Answer
 
 // Puts the listing of some bytes; hands back where it ends. What the program promises is promised here: `main` only reads and writes.
 fn list(bytes: &[u8], out: &mut [u8]) -> usize
-    requires { ⌜ 8192 ≤ length (now out) ⌝ }
+    requires { ⌜ 9216 ≤ length (now out) ⌝ }
     ensures { λ r. ⌜ Put (now (out .entry)) 0 (rendered (listing (now (bytes .entry)))) r (now (out .exit)) ⌝ }
-    ensures { λ r. ⌜ r ≤ 8192 ⌝ }
+    ensures { λ r. ⌜ r ≤ 9216 ⌝ }
 {
     if MOST < bytes.len() {
         return put(b"too long\n", out, 0);

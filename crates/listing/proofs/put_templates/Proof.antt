@@ -15,7 +15,7 @@ use Rattle.listing.proofs.put_templates.Tie as tie
 
 abbrev Inv-loop : tie.InvT-loop
 Inv-loop words n out₀ at from₀ left₀ to₀ out from left to =
-    (length out ≡ length out₀) × (from + width TEMPLATES * left ≤ length words) × (to + 105 * left ≤ at + 105 * n)
+    (length out ≡ length out₀) × (from + width TEMPLATES * left ≤ length words) × (to + 135 * left ≤ at + 135 * n)
     × ((end : ℕ) (after : List ℕ) → Put out to (rendered (linesFrom words left from)) end after → Put out₀ at (rendered (linesFrom words n templates-at)) end after)
 
 abbrev μ-loop : tie.MeasureT-loop
