@@ -14,11 +14,12 @@ use Rattle.blob.specs.Laws.{both, not-fine}
 use Rattle.blob.specs.declared.Refusal.{Refusal}
 use Rattle.blob.specs.declared.Verdict.{Verdict}
 use Rattle.blob.specs.declared.Verdict.the-variants as verdicts
-use Rattle.format.specs.Area.{TABLES, Row, rows}
+use Rattle.format.specs.Area.{TABLES, TEMPLATES, Row, rows}
+use Rattle.format.specs.Lists.{Entry}
 use Rattle.format.specs.Answer.{own, too-small, moderate, areas, lent-enough}
-use Rattle.format.specs.Lookup.{entriesFrom, entriesOf, counts-fit, tablesFit}
+use Rattle.format.specs.Lookup.{entriesFrom, entriesOf, counts-fit, tablesFit, tablesOwn}
 use Rattle.counts.specs.Short.{short, widths}
-use Rattle.lists.specs.Found.{entries, few, runOf, fitting, fit, fitTogether, Fit}
+use Rattle.lists.specs.Found.{entries, few, runOf, tablesHold, fitting, fit, fitTogether, Fit}
 
 -- a verdict as a test, and its refusal
 abbrev pub fine : Verdict → Bool
@@ -49,11 +50,18 @@ module _ (words capacities counts : List ℕ) where
   pub fits : fit words capacities counts ≡ verdicts.Fine → Fit words capacities counts
   fits e = fine-both (lent-enough capacities words) (counts-fit counts capacities) e
 
-  pub fits-together : fitTogether words capacities counts ≡ verdicts.Fine → Fit words capacities counts × (tablesFit counts (entriesOf words capacities counts TABLES) ≡ true)
+  abbrev tables : List Entry
+  tables = entriesOf words capacities counts TABLES
+
+  abbrev templates : List Entry
+  templates = entriesOf words capacities counts TEMPLATES
+
+  pub fits-together : fitTogether words capacities counts ≡ verdicts.Fine → (Fit words capacities counts × (tablesFit counts tables ≡ true)) × (tablesOwn templates tables ≡ true)
   fits-together e =
-      let h = fine-both (lent-enough capacities words) (counts-fit counts capacities && tablesFit counts (entriesOf words capacities counts TABLES)) e in
+      let h = fine-both (lent-enough capacities words) (counts-fit counts capacities && tablesHold counts templates tables) e in
       let b = both (counts-fit counts capacities) _ (h .1) in
-      ((h .0, b .0), b .1)
+      let t = both (tablesFit counts tables) _ (b .1) in
+      (((h .0, b .0), t .0), t .1)
 
 -- no list is too short for its count
 pub room-fits : (rs : List Row) (ns cs : List ℕ) → length ns ≡ length cs → length cs ≡ length rs → fine (short rs cs ns) ≡ counts-fit ns cs

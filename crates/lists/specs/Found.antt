@@ -10,10 +10,10 @@ use Rattle.blob.specs.declared.Verdict.{Verdict}
 use Rattle.blob.specs.declared.Verdict.the-variants as verdicts
 use Rattle.format.specs.Area.{TABLES, TEMPLATES, rows, place, width}
 use Rattle.format.specs.Entry.{TABLE-PROVIDER, TABLE-KIND, TABLE-FIRST, TABLE-COUNT, TEMPLATE-OFFSET}
-use Rattle.format.specs.Table.{kindList}
+use Rattle.format.specs.Table.{TTBL, kindList}
 use Rattle.format.specs.Lists.{Entry}
 use Rattle.format.specs.Answer.{own, areas, lent-enough}
-use Rattle.format.specs.Lookup.{entriesFrom, entriesOf, wordOf, alike, select, position, counts-fit, tablesFit}
+use Rattle.format.specs.Lookup.{entriesFrom, entriesOf, wordOf, alike, select, position, counts-fit, tablesFit, tablesOwn}
 use Rattle.lists.specs.declared.Found.{Found}
 use Rattle.lists.specs.declared.Found.the-variants as founds
 use Rattle.lists.specs.declared.Run.{Run}
@@ -46,6 +46,14 @@ found (n ∷ ns) = founds.Number n
 abbrev pub lowest : List ℕ → Run → ℕ → List ℕ
 lowest words templates offset = position (λ t. eqb (wordOf TEMPLATE-OFFSET t) offset) (templates .first) (entries (width TEMPLATES) templates words)
 
+-- whether each of some tables names what is there and, if it is a TTBL, has its own provider's templates
+abbrev pub tablesHold : List ℕ → List Entry → List Entry → Bool
+tablesHold counts templates ts = tablesFit counts ts && tablesOwn templates ts
+
+-- a TTBL's range is one of some templates, as far as they go
+abbrev pub rangeWithin : Entry → Run → Type 0
+rangeWithin t templates = wordOf TABLE-KIND t ≡ TTBL → wordOf TABLE-FIRST t + wordOf TABLE-COUNT t ≤ templates .count
+
 -- 8 where not enough is lent; 10 where the lists don't fit together
 abbrev pub fitting : Bool → Bool → Verdict
 fitting lent together = choose lent (choose together verdicts.Fine (verdicts.Refused (own 10))) (verdicts.Refused (own 8))
@@ -55,7 +63,7 @@ module _ (words capacities counts : List ℕ) where
   fit = fitting (lent-enough capacities words) (counts-fit counts capacities)
 
   abbrev pub fitTogether : Verdict
-  fitTogether = fitting (lent-enough capacities words) (counts-fit counts capacities && tablesFit counts (entriesOf words capacities counts TABLES))
+  fitTogether = fitting (lent-enough capacities words) (counts-fit counts capacities && tablesHold counts (entriesOf words capacities counts TEMPLATES) (entriesOf words capacities counts TABLES))
 
   -- as facts
   abbrev pub Fit : Type 0

@@ -6,41 +6,92 @@ use mathlib.Core.List.{List, [], _∷_, append-nil}
 use native.Mathlib.Omega.{arith}
 use lib.ListN.{length, getD, take, drop}
 use lib.Dec.{eqb, leb, ltb}
-use borrow.Author.Tests.{eqb-true, leb-true}
+use borrow.Author.Tests.{eqb-true, eq-eqb, ne-eqb, leb-true}
 use Rattle.blob.specs.Reading.{choose}
 use Rattle.blob.specs.Laws.{both}
 use Rattle.blob.specs.Laid.{flat}
-use Rattle.format.specs.Area.{PROVIDERS, TABLES, rows, place, width, of}
-use Rattle.format.specs.Entry.{TABLE-PROVIDER, TABLE-KIND, TABLE-FIRST, TABLE-COUNT}
+use Rattle.format.specs.Area.{PROVIDERS, TABLES, TEMPLATES, rows, place, width, of}
+use Rattle.format.specs.Entry.{TABLE-PROVIDER, TABLE-KIND, TABLE-FIRST, TABLE-COUNT, TEMPLATE-PROVIDER}
 use Rattle.format.specs.Table.{kindList}
 use Rattle.format.specs.Answer.{areas}
 use Rattle.format.specs.Lists.{Entry}
-use Rattle.format.specs.Lookup.{entriesFrom, entriesOf, wordOf, select, position, tableFits, tablesFit, ownedBy}
+use Rattle.format.specs.Lookup.{entriesFrom, entriesOf, wordOf, select, position, tableFits, tablesFit, rangeOf, all-of, tableOwns, tablesOwn}
 use Rattle.lists.specs.declared.Found.the-variants as founds
 use Rattle.lists.specs.declared.Run.{Run}
-use Rattle.lists.specs.Entries.{part-entries, entry, entries-length}
-use Rattle.lists.specs.Found.{entries, few, runOf, has, found, Fit, tableOf, rangeIn, owned}
+use Rattle.lists.specs.Entries.{part-entries, entry, entries-length, word-at}
+use Rattle.lists.specs.Found.{entries, few, runOf, has, found, tablesHold, Fit, tableOf, rangeIn, owned}
 use Rattle.lists.specs.Fit.{inside, whole-entries}
 use Rattle.lists.specs.Search.{position-same, has-two, position-found, select-found, select-none}
 
--- Of tables that are checked, those that are left decide: where the next one fits, where it does not, and where none is left.
-module _ (words counts : List ℕ) (left at : ℕ) where
+and-swap : (a b c d : Bool) → ((a && b) && (c && d)) ≡ ((a && c) && (b && d))
+and-swap true b true d = refl
+and-swap true true false d = refl
+and-swap true false false d = refl
+and-swap false b c d = refl
+
+-- Of tables that are checked, those that are left decide: where the next one fits and owns its templates, where one of the two is not so,
+-- and where none is left.
+module _ (words counts : List ℕ) (templates : List Entry) (left at : ℕ) where
+  abbrev next : Entry
+  next = take (width TABLES) (drop at words)
+
+  abbrev others : List Entry
+  others = entriesFrom (width TABLES) (left - 1) (at + width TABLES) words
+
   tables-more : 0 < left
-      → tablesFit counts (entriesFrom (width TABLES) left at words)
-      ≡ (tableFits counts (take (width TABLES) (drop at words)) && tablesFit counts (entriesFrom (width TABLES) (left - 1) (at + width TABLES) words))
-  unfolding tablesFit entriesFrom
-  tables-more h = let m : left ≡ suc (left - 1) = omega arith in ap (λ (l : ℕ). tablesFit counts (entriesFrom (width TABLES) l at words)) m
+      → tablesHold counts templates (entriesFrom (width TABLES) left at words) ≡ ((tableFits counts next && tableOwns templates next) && tablesHold counts templates others)
+  unfolding tablesFit tablesOwn entriesFrom
+  tables-more h =
+      let m : left ≡ suc (left - 1) = omega arith in
+      ap (λ (l : ℕ). tablesHold counts templates (entriesFrom (width TABLES) l at words)) m
+      ∙ and-swap (tableFits counts next) (tablesFit counts others) (tableOwns templates next) (tablesOwn templates others)
 
-  pub tables-fine : 0 < left → tableFits counts (take (width TABLES) (drop at words)) ≡ true
-      → tablesFit counts (entriesFrom (width TABLES) left at words) ≡ tablesFit counts (entriesFrom (width TABLES) (left - 1) (at + width TABLES) words)
-  tables-fine h e = tables-more h ∙ ap (λ t. t && tablesFit counts (entriesFrom (width TABLES) (left - 1) (at + width TABLES) words)) e
+  pub tables-fine : 0 < left → tableFits counts next ≡ true → tableOwns templates next ≡ true
+      → tablesHold counts templates (entriesFrom (width TABLES) left at words) ≡ tablesHold counts templates others
+  tables-fine h e g = tables-more h ∙ rw (e, g)
 
-  pub tables-unfit : 0 < left → tableFits counts (take (width TABLES) (drop at words)) ≡ false → tablesFit counts (entriesFrom (width TABLES) left at words) ≡ false
-  tables-unfit h e = tables-more h ∙ ap (λ t. t && tablesFit counts (entriesFrom (width TABLES) (left - 1) (at + width TABLES) words)) e
+  pub tables-unfit : 0 < left → tableFits counts next ≡ false → tablesHold counts templates (entriesFrom (width TABLES) left at words) ≡ false
+  tables-unfit h e = tables-more h ∙ rw e
 
-  pub tables-none : left ≤ 0 → tablesFit counts (entriesFrom (width TABLES) left at words) ≡ true
-  unfolding tablesFit entriesFrom
+  pub tables-foreign : 0 < left → tableFits counts next ≡ true → tableOwns templates next ≡ false → tablesHold counts templates (entriesFrom (width TABLES) left at words) ≡ false
+  tables-foreign h e g = tables-more h ∙ rw (e, g)
+
+  pub tables-none : left ≤ 0 → tablesHold counts templates (entriesFrom (width TABLES) left at words) ≡ true
+  unfolding tablesFit tablesOwn entriesFrom
   tables-none h = let m : left ≡ 0 = omega arith in rw m
+
+-- Of templates that are checked, the same.
+module _ (words : List ℕ) (provider left at : ℕ) where
+  all-more : 0 < left → at + width TEMPLATES * left ≤ length words
+      → all-of provider (entriesFrom (width TEMPLATES) left at words)
+      ≡ (eqb (getD words (at + TEMPLATE-PROVIDER) 0) provider && all-of provider (entriesFrom (width TEMPLATES) (left - 1) (at + width TEMPLATES) words))
+  unfolding all-of entriesFrom
+  all-more h g =
+      let m : left ≡ suc (left - 1) = omega arith in
+      ap (λ (l : ℕ). all-of provider (entriesFrom (width TEMPLATES) l at words)) m ∙ rw (word-at (width TEMPLATES) words TEMPLATE-PROVIDER at (omega arith))
+
+  pub all-here : 0 < left → at + width TEMPLATES * left ≤ length words → getD words (at + TEMPLATE-PROVIDER) 0 ≡ provider
+      → all-of provider (entriesFrom (width TEMPLATES) left at words) ≡ all-of provider (entriesFrom (width TEMPLATES) (left - 1) (at + width TEMPLATES) words)
+  all-here h g e = all-more h g ∙ rw (eq-eqb _ _ e)
+
+  pub all-other : 0 < left → at + width TEMPLATES * left ≤ length words → (getD words (at + TEMPLATE-PROVIDER) 0 ≡ provider → ⊥)
+      → all-of provider (entriesFrom (width TEMPLATES) left at words) ≡ false
+  all-other h g e = all-more h g ∙ rw (ne-eqb _ _ e)
+
+  pub all-none : left ≤ 0 → all-of provider (entriesFrom (width TEMPLATES) left at words) ≡ true
+  unfolding all-of entriesFrom
+  all-none h = let m : left ≡ 0 = omega arith in rw m
+
+-- a TTBL's range of all templates, as a run
+module _ (words : List ℕ) (templates : Run) (z : templates .first ≡ 0) (t : Entry) (h : wordOf TABLE-FIRST t + wordOf TABLE-COUNT t ≤ templates .count) where
+  pub range-few : few (width TEMPLATES) templates words → few (width TEMPLATES) (rangeIn (templates .start) (t ∷ [])) words
+  range-few f = (omega arith, omega arith)
+
+  pub range-entries : rangeOf (entries (width TEMPLATES) templates words) t ≡ entries (width TEMPLATES) (rangeIn (templates .start) (t ∷ [])) words
+  range-entries =
+      let s : templates .start + width TEMPLATES * templates .first ≡ templates .start = omega arith in
+      part-entries (width TEMPLATES) words (wordOf TABLE-FIRST t) (wordOf TABLE-COUNT t) (templates .count) (templates .start + width TEMPLATES * templates .first) h
+      ∙ ap (λ a. entriesFrom (width TEMPLATES) (wordOf TABLE-COUNT t) (a + width TEMPLATES * wordOf TABLE-FIRST t) words) s
 
 -- a provider's first table of a kind, by the number that is found
 module _ (words capacities counts : List ℕ) (f : Fit words capacities counts) (provider kind : ℕ) where
@@ -78,7 +129,7 @@ module _ (words capacities counts : List ℕ) (f : Fit words capacities counts) 
 -- The entries that a provider's table of a kind has are a run of the kind's list.
 module _ (words capacities counts : List ℕ) (l kind : ℕ) (k : kindList kind ≡ l) where
   pub record Owned (ts : List Entry) : Type 0 where
-    pub equal : flat (λ t. take (wordOf TABLE-COUNT t) (drop (wordOf TABLE-FIRST t) (entriesOf words capacities counts l))) ts
+    pub equal : flat (rangeOf (entriesOf words capacities counts l)) ts
         ≡ entries (width l) (rangeIn (areas rows (take (place l) capacities)) ts) words
     pub begins : rangeIn (areas rows (take (place l) capacities)) ts .start ≡ areas rows (take (place l) capacities)
     pub within : rangeIn (areas rows (take (place l) capacities)) ts .first + rangeIn (areas rows (take (place l) capacities)) ts .count ≤ of l counts
@@ -97,7 +148,7 @@ module _ (words capacities counts : List ℕ) (l kind : ℕ) (k : kindList kind 
       }
 
   -- a table that fits has a range of its list
-  fits-range : (t : Entry) → tableFits counts t ≡ true → wordOf TABLE-KIND t ≡ kind → wordOf TABLE-FIRST t + wordOf TABLE-COUNT t ≤ of l counts
+  pub fits-range : (t : Entry) → tableFits counts t ≡ true → wordOf TABLE-KIND t ≡ kind → wordOf TABLE-FIRST t + wordOf TABLE-COUNT t ≤ of l counts
   fits-range t e g =
       let a = both (ltb (wordOf TABLE-PROVIDER t) (of PROVIDERS counts)) _ e .1 in
       let b = both (leb 1 (wordOf TABLE-KIND t)) _ a .1 in

@@ -18,6 +18,7 @@ use format::entry::TABLE_FIRST;
 use format::entry::TABLE_KIND;
 use format::entry::TABLE_PROVIDER;
 use format::entry::TEMPLATE_OFFSET;
+use format::entry::TEMPLATE_PROVIDER;
 use format::kind;
 use format::list::AREAS;
 use format::list::row;
@@ -179,36 +180,6 @@ fn table_fits(words: &[u32], at: usize, c: [u32; AREAS]) -> bool
     )
 }
 
-// Whether each table entry does.
-fn tables_fit(words: &[u32], capacities: [u32; AREAS], counts: [u32; AREAS]) -> bool
-    requires { ⌜ spec.Fit (now words) capacities counts ⌝ }
-    ensures { λ r. ⌜ r ≡ right.tablesFit counts (right.entriesOf (now (words .entry)) capacities counts area.TABLES) ⌝ }
-{
-    let mut at = counts::area_at(capacities, row::TABLES);
-    let mut left = counts[row::TABLES];
-    while 0 < left {
-        if !table_fits(words, at, counts) {
-            return false;
-        }
-        at += width::TABLES;
-        left -= 1;
-    }
-    true
-}
-
-// 8, and 10 for a count over its capacity or for a table that names what is not there.
-pub fn fit_together(words: &[u32], capacities: [u32; AREAS], counts: [u32; AREAS]) -> Verdict
-    ensures { λ r. ⌜ r ≡ spec.fitTogether (now (words .entry)) capacities counts ⌝ }
-{
-    if let Verdict::Refused(r) = fit(words, capacities, counts) {
-        return Verdict::Refused(r);
-    }
-    if tables_fit(words, capacities, counts) {
-        return Verdict::Fine;
-    }
-    Verdict::Refused(bounds::own(10))
-}
-
 // The entries that a table has, by where it stands, in a list that starts at a place.
 fn range_at(words: &[u32], at: usize, start: usize) -> Run
     requires { ⌜ at + area.width area.TABLES ≤ length (now words) ⌝ }
@@ -219,6 +190,71 @@ fn range_at(words: &[u32], at: usize, start: usize) -> Run
         first: table_word(words, at, TABLE_FIRST),
         count: table_word(words, at, TABLE_COUNT),
     }
+}
+
+// Whether all of some templates are a provider's.
+fn all_of(words: &[u32], templates: Run, provider: u32) -> bool
+    requires { ⌜ spec.few (area.width area.TEMPLATES) templates (now words) ⌝ }
+    ensures { λ r. ⌜ r ≡ right.all-of provider (spec.entries (area.width area.TEMPLATES) templates (now (words .entry))) ⌝ }
+{
+    let mut at = entry_at(templates.start, row::TEMPLATES, templates.first);
+    let mut left = templates.count;
+    while 0 < left {
+        if words[at + TEMPLATE_PROVIDER] != provider {
+            return false;
+        }
+        at += width::TEMPLATES;
+        left -= 1;
+    }
+    true
+}
+
+// Whether a table entry that fits, if it is a TTBL's, has its own provider's templates alone, of all of them.
+fn table_owns(words: &[u32], at: usize, templates: Run) -> bool
+    requires { ⌜ (at + area.width area.TABLES ≤ length (now words)) × spec.few (area.width area.TEMPLATES) templates (now words) ⌝ }
+    requires { ⌜ (templates .first ≡ 0) × spec.rangeWithin (take (area.width area.TABLES) (drop at (now words))) templates ⌝ }
+    ensures { λ r. ⌜ r ≡ right.tableOwns (spec.entries (area.width area.TEMPLATES) templates (now (words .entry))) (take (area.width area.TABLES) (drop at (now (words .entry)))) ⌝ }
+{
+    if table_word(words, at, TABLE_KIND) != kind::TTBL {
+        return true;
+    }
+    let provider = table_word(words, at, TABLE_PROVIDER);
+    all_of(words, range_at(words, at, templates.start), provider)
+}
+
+// Whether each table entry names what is there, and each TTBL's has its own provider's templates. Where ranges do not overlap, as those of
+// a reading's lists, no template is looked at twice.
+fn tables_fit(words: &[u32], capacities: [u32; AREAS], counts: [u32; AREAS]) -> bool
+    requires { ⌜ spec.Fit (now words) capacities counts ⌝ }
+    ensures { λ r. ⌜ r ≡ spec.tablesHold counts (right.entriesOf (now (words .entry)) capacities counts area.TEMPLATES) (right.entriesOf (now (words .entry)) capacities counts area.TABLES) ⌝ }
+{
+    let templates = run_of(capacities, counts, row::TEMPLATES);
+    let mut at = counts::area_at(capacities, row::TABLES);
+    let mut left = counts[row::TABLES];
+    while 0 < left {
+        if !table_fits(words, at, counts) {
+            return false;
+        }
+        if !table_owns(words, at, templates) {
+            return false;
+        }
+        at += width::TABLES;
+        left -= 1;
+    }
+    true
+}
+
+// 8, and 10 for a count over its capacity, for a table that names what is not there, or for a TTBL with a template of another provider.
+pub fn fit_together(words: &[u32], capacities: [u32; AREAS], counts: [u32; AREAS]) -> Verdict
+    ensures { λ r. ⌜ r ≡ spec.fitTogether (now (words .entry)) capacities counts ⌝ }
+{
+    if let Verdict::Refused(r) = fit(words, capacities, counts) {
+        return Verdict::Refused(r);
+    }
+    if tables_fit(words, capacities, counts) {
+        return Verdict::Fine;
+    }
+    Verdict::Refused(bounds::own(10))
 }
 
 // The entries that a provider's first table of a kind has in the kind's list; none where it has no such table.

@@ -18,14 +18,14 @@ use Rattle.format.specs.Entry.{GUID, EVENT-TEMPLATE}
 use Rattle.format.specs.Table.{EVNT, TTBL}
 use Rattle.format.specs.Lists.{Entry, guidWords}
 use Rattle.format.specs.Answer.{own, lent-enough}
-use Rattle.format.specs.Lookup.{entriesOf, wordOf, select, position, positions, counts-fit, tablesFit, once, keyed, keyWords, guidAtOffset, guidsOfProvider, guidsOf, byKey, guidsFound, guidsHeld}
+use Rattle.format.specs.Lookup.{entriesOf, wordOf, select, position, positions, counts-fit, tablesFit, tablesOwn, once, keyed, keyWords, guidAtOffset, guidsOfProvider, guidsOf, byKey, guidsFound, guidsHeld}
 use Rattle.format.specs.declared.GuidsFound.the-variants as guids
 use Rattle.format.specs.declared.Key.{Key}
 use Rattle.lists.specs.declared.Found.{Found}
 use Rattle.lists.specs.declared.Found.the-variants as founds
 use Rattle.lists.specs.declared.Run.{Run}
 use Rattle.lists.specs.Fit.{refused-as, inside, whole-entries}
-use Rattle.lists.specs.Found.{entries, few, runOf, has, found, fitTogether, Fit, owned}
+use Rattle.lists.specs.Found.{entries, few, runOf, has, found, tablesHold, fitTogether, Fit, owned}
 use Rattle.lists.specs.Search.{and-true, told, position-single, positions-none, run-positions}
 use Rattle.lists.specs.Tables.{owned-entries}
 use Rattle.lookup.specs.declared.Came.{Came}
@@ -47,12 +47,13 @@ module _ (words capacities counts : List ℕ) (key : Key) (lent : List ℕ) wher
   unfolding byKey
   key-refused h r e =
       rw (le-leb _ _ h, and-true (lent-enough capacities words))
-      (refused-as refused _ (lent-enough capacities words) (counts-fit counts capacities && tablesFit counts (entriesOf words capacities counts TABLES)) r e)
+      (refused-as refused _ (lent-enough capacities words) (counts-fit counts capacities && tablesHold counts (entriesOf words capacities counts TEMPLATES) (entriesOf words capacities counts TABLES)) r e)
 
   pub key-room : length lent / GUID ≤ 65536 → Fit words capacities counts → tablesFit counts (entriesOf words capacities counts TABLES) ≡ true
+      → tablesOwn (entriesOf words capacities counts TEMPLATES) (entriesOf words capacities counts TABLES) ≡ true
       → byKey words capacities counts key lent ≡ roomFor lent (guidsOf words capacities counts key)
   unfolding byKey
-  key-room h f t = rw (f .0, le-leb _ _ h, f .1, t)
+  key-room h f t o = rw (f .0, le-leb _ _ h, f .1, t, o)
 
 -- Where no event is left, the next provider decides: its events come next; where there is none, it is over.
 module _ (words capacities counts guid key : List ℕ) (providers : Run) (marks : List Bool) where

@@ -18,6 +18,7 @@ use format::TemplateFound;
 use format::entry::EVENT_TEMPLATE;
 use format::entry::GUID;
 use format::entry::TEMPLATE_GUID;
+use format::entry::TEMPLATE_PROVIDER;
 use format::kind;
 use format::list;
 use format::list::AREAS;
@@ -63,16 +64,17 @@ fn shown(f: Found) -> TemplateFound
     }
 }
 
-// The number in list 9 of the lowest template entry in a range whose offset is equal.
+// The number in list 9 of the lowest template entry in a range whose provider and offset are equal.
 pub fn template_at(
     words: &[u32],
     capacities: [u32; AREAS],
     counts: [u32; AREAS],
+    provider: u32,
     first: u32,
     count: u32,
     offset: u32,
 ) -> TemplateFound
-    ensures { λ r. ⌜ right.AllowedAt (now (words .entry)) capacities counts first count offset r ⌝ }
+    ensures { λ r. ⌜ right.AllowedAt (now (words .entry)) capacities counts provider first count offset r ⌝ }
 {
     if let Verdict::Refused(r) = lists::fit(words, capacities, counts) {
         return TemplateFound::Refused(r);
@@ -86,7 +88,8 @@ pub fn template_at(
         first,
         count,
     };
-    shown(lists::at_offset(words, range, offset))
+    let key = [provider, offset];
+    shown(lists::find(words, range, row::TEMPLATES, TEMPLATE_PROVIDER, &key))
 }
 
 // The number of the template that an event gives, where its GUID was not given before: of the lowest at the event's offset, where its key

@@ -34,7 +34,7 @@ next-provider-requires c κs =
     let v = e .before .before in
     let a = v .before .before .before .before .args in
     let t = fits-together (a .words .now) (a .capacities) (a .counts) (sym (v .fit-together .ensures) ∙ e .enum-told .given .1) in
-    (t, (omega arith, subst (λ u. few (width PROVIDERS) u (a .words .now)) (sym (r .run-of .ensures)) (whole-few (a .words .now) (a .capacities) (a .counts) (t .0) (place PROVIDERS))))
+    (t .0, (omega arith, subst (λ u. few (width PROVIDERS) u (a .words .now)) (sym (r .run-of .ensures)) (whole-few (a .words .now) (a .capacities) (a .counts) (t .0 .0) (place PROVIDERS))))
 
 returns-3 : tie.Need-returns-3
 returns-3 c =
@@ -45,7 +45,7 @@ returns-3 c =
     let a = v .before .before .before .before .args in
     let t = fits-together (a .words .now) (a .capacities) (a .counts) (sym (v .fit-together .ensures) ∙ e .enum-told .given .1) in
     let x = given-none (a .guids .now) [] (omega arith) in
-    let y = sym (key-room (a .words .now) (a .capacities) (a .counts) (a .key) (a .guids .now) (v .before .if1 .left) (t .0) (t .1) ∙ ap (roomFor (a .guids .now)) (key-given (a .words .now) (a .capacities) (a .counts) (t .0) (t .1) (a .key) _ (ap (nextProvider (a .words .now) (a .capacities) (a .counts) (guidWords (a .key .guid))) (sym (r .run-of .ensures)) ∙ sym (f .next-provider .ensures .0) ∙ c .enum-told2 .given .1))) in
+    let y = sym (key-room (a .words .now) (a .capacities) (a .counts) (a .key) (a .guids .now) (v .before .if1 .left) (t .0 .0) (t .0 .1) (t .1) ∙ ap (roomFor (a .guids .now)) (key-given (a .words .now) (a .capacities) (a .counts) (t .0 .0) (t .0 .1) (a .key) _ (ap (nextProvider (a .words .now) (a .capacities) (a .counts) (guidWords (a .key .guid))) (sym (r .run-of .ensures)) ∙ sym (f .next-provider .ensures .0) ∙ c .enum-told2 .given .1))) in
     record { answered = x .0 ∙ ap guidsFound y; kept = x .1 ∙ ap (guidsHeld (a .guids .now)) y }
 
 give-requires : tie.Need-give-requires
@@ -56,7 +56,7 @@ give-requires c κs =
     let v = e .before .before in
     let a = v .before .before .before .before .args in
     let t = fits-together (a .words .now) (a .capacities) (a .counts) (sym (v .fit-together .ensures) ∙ e .enum-told .given .1) in
-    (t, ((omega arith, v .before .if1 .left), subst (arrived (a .words .now) (runOf (a .capacities) (a .counts) (place TEMPLATES)) (r .run-of .result)) (c .before .before .before .walk .given .1) (f .next-provider .ensures .1) .0))
+    (t .0, ((omega arith, v .before .if1 .left), subst (arrived (a .words .now) (runOf (a .capacities) (a .counts) (place TEMPLATES)) (r .run-of .result)) (c .before .before .before .walk .given .1) (f .next-provider .ensures .1) .0))
 
 returns-4 : tie.Need-returns-4
 returns-4 c =
@@ -67,7 +67,7 @@ returns-4 c =
     let a = v .before .before .before .before .args in
     let t = fits-together (a .words .now) (a .capacities) (a .counts) (sym (v .fit-together .ensures) ∙ e .enum-told .given .1) in
     let u = c .before .before in
-    let x = sym (key-room (a .words .now) (a .capacities) (a .counts) (a .key) (a .guids .now) (v .before .if1 .left) (t .0) (t .1) ∙ ap (roomFor (a .guids .now)) (key-given (a .words .now) (a .capacities) (a .counts) (t .0) (t .1) (a .key) _ (ap (nextProvider (a .words .now) (a .capacities) (a .counts) (guidWords (a .key .guid))) (sym (r .run-of .ensures)) ∙ sym (f .next-provider .ensures .0) ∙ c .before .before .before .before .before .before .walk .given .1))) in
+    let x = sym (key-room (a .words .now) (a .capacities) (a .counts) (a .key) (a .guids .now) (v .before .if1 .left) (t .0 .0) (t .0 .1) (t .1) ∙ ap (roomFor (a .guids .now)) (key-given (a .words .now) (a .capacities) (a .counts) (t .0 .0) (t .0 .1) (a .key) _ (ap (nextProvider (a .words .now) (a .capacities) (a .counts) (guidWords (a .key .guid))) (sym (r .run-of .ensures)) ∙ sym (f .next-provider .ensures .0) ∙ c .before .before .before .before .before .before .walk .given .1))) in
     record { answered = u .give .ensures .0 ∙ ap guidsFound x; kept = u .give .ensures .1 ∙ ap (guidsHeld (a .guids .now)) x }
 
 pub templates-for-spec : {M : Type 1} → statement M
