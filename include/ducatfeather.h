@@ -14,7 +14,7 @@
  *         for (uint32_t i = 0; i < ducat_count(answer, DUCAT_LIST_TEMPLATES); i++) {
  *             struct ducat_template entry;
  *             ducat_entry(words, capacities, DUCAT_LIST_TEMPLATES, i, &entry, sizeof entry);
- *             printf("template %u size %u\n", (unsigned)entry.offset, (unsigned)entry.size);
+ *             printf("template %u provider %u\n", (unsigned)entry.offset, (unsigned)entry.provider_number);
  *         }
  *         free(words);
  *     }
@@ -226,6 +226,7 @@ struct ducat_map_entry {
 };
 
 struct ducat_template {
+    uint32_t provider_number; /* in DUCAT_LIST_PROVIDERS */
     uint32_t offset;
     uint32_t size;
     uint32_t item_descriptor_count;
@@ -281,7 +282,7 @@ enum {
     DUCAT_EVENT_WORDS = 16,
     DUCAT_MAP_WORDS = 12,
     DUCAT_MAP_ENTRY_WORDS = 2,
-    DUCAT_TEMPLATE_WORDS = 12,
+    DUCAT_TEMPLATE_WORDS = 13,
     DUCAT_UNKNOWN_ELEMENT_WORDS = 4,
     DUCAT_ITEM_WORDS = 10,
     DUCAT_GUID_WORDS = 4,
@@ -452,14 +453,15 @@ uint32_t ducat_read(const uint8_t *blob, size_t blob_len,
  * No pointer may be null, not even where its length is 0, and what is written to, the answer and the list of GUIDs, may overlap
  * with nothing else that is lent. Calls that write to memory of their own may run side by side, over the same words too. */
 
-/* By offset: the lowest template, among the entries of DUCAT_LIST_TEMPLATES from number first on, count of them, whose offset is
- * this one. To find an event's template, give first entry and count of its provider's TTBL, and the event's template offset.
+/* By offset: the lowest template, among the entries of DUCAT_LIST_TEMPLATES from number first on, count of them, whose provider and
+ * whose offset are these. To find an event's template, give its provider's number, first entry and count of that provider's TTBL,
+ * and the event's template offset.
  *
- * A range past the list's count is code 10, also where count is 0. answer_len is DUCAT_TEMPLATE_NUMBERS. */
+ * The provider's number is compared with that of each entry, and no more: one that is no provider's is no fault. A range past the list's count is code 10, also where count is 0. answer_len is DUCAT_TEMPLATE_NUMBERS. */
 uint32_t ducat_template_at(const uint32_t *words, size_t words_len,
                            const uint32_t *capacities, size_t capacities_len,
                            const uint32_t *counts, size_t counts_len,
-                           uint32_t first, uint32_t count, uint32_t offset,
+                           uint32_t provider, uint32_t first, uint32_t count, uint32_t offset,
                            uint64_t *answer, size_t answer_len);
 
 /* By key: the GUIDs of the templates of the events with this key, each once, in first-seen order. All providers with the key's GUID
@@ -471,7 +473,7 @@ uint32_t ducat_template_at(const uint32_t *words, size_t words_len,
  *                   DUCAT_MOST it is code 8. There are at most as many GUIDs as DUCAT_LIST_TEMPLATES has entries.
  *
  * An entry of DUCAT_LIST_TABLES whose provider is not there, whose kind isn't 1 to 8, or whose range is past its list's count is
- * code 10, whether it is used or not; then a list that is too short is 9. answer_len is DUCAT_GUIDS_NUMBERS. Of guids nothing is
+ * code 10, whether it is used or not, and so is a TTBL's whose range has a template of another provider; then a list that is too short is 9. answer_len is DUCAT_GUIDS_NUMBERS. Of guids nothing is
  * touched but the GUIDs that are given, and nothing on any other code than 0.
  *
  * It keeps a mark for each template, and uses about 70 KB of stack. */

@@ -131,17 +131,18 @@ fn each_row(capacities: &[u32], counts: &[u32]) -> bool
     counts.len() == AREAS
 }
 
-// The template at an offset, with n numbers to store the answer in.
+// A provider's template at an offset, with n numbers to store the answer in.
 fn template_at(
     words: &[u32],
     capacities: &[u32],
     counts: &[u32],
+    provider: u32,
     first: u32,
     count: u32,
     offset: u32,
     n: usize,
 ) -> TemplateFound
-    ensures { λ r. ⌜ r ≡ call.calledAt (now (words .entry)) (now (capacities .entry)) (now (counts .entry)) first count offset n ⌝ }
+    ensures { λ r. ⌜ r ≡ call.calledAt (now (words .entry)) (now (capacities .entry)) (now (counts .entry)) provider first count offset n ⌝ }
 {
     if !each_row(capacities, counts) {
         return TemplateFound::Refused(bounds::own(8));
@@ -153,6 +154,7 @@ fn template_at(
         words,
         for_lists(capacities),
         for_lists(counts),
+        provider,
         first,
         count,
         offset,
@@ -181,23 +183,25 @@ fn template_code(f: TemplateFound) -> u32
     }
 }
 
-// Finds the lowest template at an offset in a range of list 9.
+// Finds a provider's lowest template at an offset in a range of list 9.
 #[no_mangle]
 pub extern "C" fn ducat_template_at(
     words: &[u32],
     capacities: &[u32],
     counts: &[u32],
+    provider: u32,
     first: u32,
     count: u32,
     offset: u32,
     answer: &mut [u64],
 ) -> u32
-    ensures { λ r. ⌜ call.AllowedTemplate (now (words .entry)) (now (capacities .entry)) (now (counts .entry)) first count offset (now (answer .entry)) r (now (answer .exit)) ⌝ }
+    ensures { λ r. ⌜ call.AllowedTemplate (now (words .entry)) (now (capacities .entry)) (now (counts .entry)) provider first count offset (now (answer .entry)) r (now (answer .exit)) ⌝ }
 {
     let f = template_at(
         words,
         capacities,
         counts,
+        provider,
         first,
         count,
         offset,
