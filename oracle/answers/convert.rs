@@ -477,6 +477,7 @@ impl Lists<'_> {
             self.put(
                 TEMPLATES,
                 [
+                    provider,
                     template.offset,
                     template.size,
                     template.item_descriptor_count,

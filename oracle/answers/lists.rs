@@ -36,7 +36,7 @@ pub const ROWS: &[Row] = &[
     row(EVENTS, 16),
     row(MAPS, 12),
     row(MAP_ENTRIES, 2),
-    row(TEMPLATES, 12),
+    row(TEMPLATES, 13),
     row(UNKNOWN_ELEMENTS, 4),
     row(ITEMS, 10),
 ];

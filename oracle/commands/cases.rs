@@ -78,7 +78,7 @@ fn told(name: &str, blob: &[u8]) -> Option<(Answer, Option<Case>)> {
 fn expected() -> Vec<(Answer, Option<Case>)> {
     // The name is another, of size 4.
     let mut over_header = u_named([100, 104, 0, 0]);
-    over_header.lists[row_of(TEMPLATES)][6] = 4;
+    over_header.lists[row_of(TEMPLATES)][7] = 4;
     vec![
         (refusal(1, 1, 0, 4, 0), None),
         (z_accepted(), None),
@@ -125,7 +125,7 @@ fn t_accepted() -> Answer {
     t.lists[row_of(PROVIDERS)] = vec![0, 0, 0, 0, 36, 80, 0, 1, 0];
     t.lists[row_of(DESCRIPTORS)] = vec![64, 0, u32::from_le_bytes(*b"TTBL")];
     t.lists[row_of(TABLES)] = vec![0, 8, 64, 52, 0, 0, 1, 0, 0];
-    t.lists[row_of(TEMPLATES)] = vec![76, 40, 0, 0, 0, 0, 0, 0, 0, 0, 116, 0];
+    t.lists[row_of(TEMPLATES)] = vec![0, 76, 40, 0, 0, 0, 0, 0, 0, 0, 0, 116, 0];
     t
 }
 
@@ -134,7 +134,7 @@ fn u_named([offset, start, units, ended]: [u32; 4]) -> Answer {
     let mut u = t_accepted();
     u.first = 152;
     u.lists[row_of(TABLES)] = vec![0, 8, 64, 80, 0, 0, 1, 0, 0];
-    u.lists[row_of(TEMPLATES)] = vec![76, 68, 1, 1, 116, 0, 0, 0, 0, 0, 116, 0];
+    u.lists[row_of(TEMPLATES)] = vec![0, 76, 68, 1, 1, 116, 0, 0, 0, 0, 0, 116, 0];
     u.lists[row_of(ITEMS)] = vec![0, 0, 0, 0, 0, 0, offset, start, units, ended];
     u
 }

@@ -83,8 +83,8 @@ fn main() -> ExitCode {
         "joins in these, in {} blobs made for joins and in {LARGE_JOINED} large ones: {} blobs with \
          events that have templates; {} keys, {} of them with templates, {} with several; where two \
          providers have one GUID, {} with templates, {} of several providers, {} with a GUID of \
-         several, {} of a later provider alone; {} offsets, {} of them of a template; {} lookups, {} of them \
-         8, {} 9, {} 10: no difference",
+         several, {} of a later provider alone; {} offsets, {} of them of a template, {} behind \
+         another provider's at that offset; {} lookups, {} of them 8, {} 9, {} 10: no difference",
         count / PER_JOINED,
         joins.blobs,
         joins.keys,
@@ -96,6 +96,7 @@ fn main() -> ExitCode {
         joins.later,
         joins.offsets,
         joins.found,
+        joins.behind,
         joins.by_code.iter().sum::<u64>(),
         joins.by_code[8],
         joins.by_code[9],

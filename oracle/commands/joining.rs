@@ -41,9 +41,11 @@ pub struct Totals {
     pub shared: u64,
     pub twice: u64,
     pub later: u64,
-    /// Offsets that were asked for, and those of a template.
+    /// Offsets that were asked for, those of a template, and those of one that stands behind
+    /// another provider's at the same offset.
     pub offsets: u64,
     pub found: u64,
+    pub behind: u64,
     /// All lookups.
     pub by_code: [u64; 11],
 }
@@ -60,6 +62,7 @@ impl Totals {
         self.later += other.later;
         self.offsets += other.offsets;
         self.found += other.found;
+        self.behind += other.behind;
         for (mine, theirs) in self.by_code.iter_mut().zip(other.by_code) {
             *mine += theirs;
         }
@@ -91,6 +94,7 @@ impl Totals {
             (self.shared, "a key with templates of several providers"),
             (self.twice, "a key with a GUID from several providers"),
             (self.later, "a key with templates of a later provider alone"),
+            (self.behind, "a template behind another provider's at its offset"),
         ];
         let none = sorts.into_iter().filter(|(times, _)| *times == 0);
         none.map(|(_, sort)| sort.to_string()).collect()
@@ -216,7 +220,8 @@ impl Joiner {
     }
 
     /// The templates of each provider's TTBL: at their own offsets, at those that its events name,
-    /// and a little beside them.
+    /// and a little beside them. In the TTBL's range, and in all of them, where other providers'
+    /// may stand before them; and by another provider's number, or one that none has.
     fn by_offsets(
         &mut self,
         lists: &Lists,
@@ -227,7 +232,7 @@ impl Joiner {
         for table in found.entries(TABLES).filter(|table| table[1] == 8) {
             let [provider, first, count] = [table[0], table[5], table[6]];
             let mut offsets = vec![0, rng.word()];
-            offsets.extend(part(found, TEMPLATES, first, count).map(|template| template[0]));
+            offsets.extend(part(found, TEMPLATES, first, count).map(|template| template[1]));
             let tables = found.entries(TABLES);
             for events in tables.filter(|t| t[0] == provider && t[1] == 2) {
                 offsets.extend(part(found, EVENTS, events[5], events[6]).map(|event| event[9]));
@@ -235,25 +240,32 @@ impl Joiner {
             some(&mut offsets, count, rng);
             let beside = rng.pick(&offsets).wrapping_add(rng.pick(&[1, u32::MAX]));
             offsets.push(beside);
+            let all = lists.count(TEMPLATES);
+            let none = [0; raw::TEMPLATE_NUMBERS];
             for offset in offsets {
-                let at = accepted.template_at(provider as usize, offset);
-                let expected = match at {
+                let expected = match accepted.template_at(provider as usize, offset) {
                     Some(at) => [0, 0, 0, 0, 1, u64::from(first) + at as u64],
-                    None => [0; raw::TEMPLATE_NUMBERS],
+                    None => none,
                 };
-                self.look_at(lists, [first, count, offset], expected)?;
+                self.look_at(lists, [provider, first, count, offset], expected)?;
+                self.look_at(lists, [provider, 0, all, offset], expected)?;
+                let other = other_than(provider, lists.count(PROVIDERS), rng);
+                self.look_at(lists, [other, first, count, offset], none)?;
                 self.totals.offsets += 1;
-                self.totals.found += u64::from(at.is_some());
+                self.totals.found += expected[4];
+                let mut before = part(found, TEMPLATES, 0, first);
+                let passed = expected[4] == 1 && before.any(|template| template[1] == offset);
+                self.totals.behind += u64::from(passed);
             }
         }
         Ok(())
     }
 
-    /// Looks a template up in a range of `TEMPLATES`; the answer must come out so.
+    /// Looks a provider's template up in a range of `TEMPLATES`; the answer must come out so.
     fn look_at(
         &mut self,
         lists: &Lists,
-        [first, count, offset]: [u32; 3],
+        [provider, first, count, offset]: [u32; 4],
         expected: [u64; raw::TEMPLATE_NUMBERS],
     ) -> Result<(), String> {
         self.totals.by_code[expected[0] as usize] += 1;
@@ -262,6 +274,7 @@ impl Joiner {
             lists.words,
             &lists.capacities,
             &lists.counts,
+            provider,
             first,
             count,
             offset,
@@ -269,8 +282,8 @@ impl Joiner {
         );
         if answer != expected || u64::from(code) != expected[0] {
             return Err(format!(
-                "at the offset {offset}, in {count} entries from {first} on, the library gives {code} \
-                 and answers {answer:?} instead of {expected:?}"
+                "of provider {provider} at the offset {offset}, in {count} entries from {first} on, \
+                 the library gives {code} and answers {answer:?} instead of {expected:?}"
             ));
         }
         Ok(())
@@ -284,12 +297,12 @@ impl Joiner {
         counts[list] = over(lists.capacities[list], rng);
         let mut apart = Lists { counts, ..*lists };
         self.refused(&apart, found, 10, rng)?;
-        self.look_at(&apart, [0; 3], [10, 0, 0, 0, 0, 0])?;
+        self.look_at(&apart, [0; 4], [10, 0, 0, 0, 0, 0])?;
         let needed = areas(&lists.capacities);
         if needed > 0 {
             apart.words = &lists.words[..needed - 1];
             self.refused(&apart, found, 8, rng)?;
-            self.look_at(&apart, [0; 3], [8, 0, 0, 0, 0, 0])?;
+            self.look_at(&apart, [0; 4], [8, 0, 0, 0, 0, 0])?;
         }
 
         // A range past the templates.
@@ -299,7 +312,8 @@ impl Joiner {
             Some(left) => over(left, rng),
             None => rng.word(),
         };
-        self.look_at(lists, [first, count, rng.word()], [10, 0, 0, 0, 0, 0])?;
+        let past = [rng.below(3) as u32, first, count, rng.word()];
+        self.look_at(lists, past, [10, 0, 0, 0, 0, 0])?;
 
         // A table that names a provider, a kind or entries that are not there. The words are copied.
         let tables = lists.count(TABLES) as usize;
@@ -315,6 +329,17 @@ impl Joiner {
                 2 => table[5] = over(entries - table[6], rng),
                 _ => table[6] = over(entries - table[5], rng),
             }
+            let words = &words;
+            self.refused(&Lists { words, ..*lists }, found, 10, rng)?;
+        }
+
+        // A template with another provider's number: each is in a TTBL's range.
+        if templates > 0 && lists.words.len() < 100_000 {
+            let mut words = lists.words.to_vec();
+            let number = rng.below(templates as usize);
+            let provider =
+                &mut words[lists.area(TEMPLATES) + ROWS[row_of(TEMPLATES)].words * number];
+            *provider = other_than(*provider, lists.count(PROVIDERS), rng);
             let words = &words;
             self.refused(&Lists { words, ..*lists }, found, 10, rng)?;
         }
@@ -336,6 +361,15 @@ impl Joiner {
         };
         self.look_up(lists, &key, rng.below(9), [code, 0, 0, 0, 0], &[])
     }
+}
+
+/// Another number than a provider's, where there are so many: another provider's, or any.
+fn other_than(provider: u32, providers: u32, rng: &mut Rng) -> u32 {
+    if providers > 1 && rng.chance(50) {
+        let more = rng.between(1, providers as usize - 1) as u32;
+        return (provider + more) % providers;
+    }
+    provider.wrapping_add(rng.word().max(1))
 }
 
 /// A number over this one.

@@ -72,7 +72,7 @@ fn maps() -> Answer {
 
 fn items() -> Answer {
     let mut items = accepted(b"TTBL", [8, 64, 188], 1);
-    items.lists[row_of(TEMPLATES)] = vec![76, 176, 5, 5, 116, 0, 0, 0, 0, 0, 116, 0];
+    items.lists[row_of(TEMPLATES)] = vec![0, 76, 176, 5, 5, 116, 0, 0, 0, 0, 0, 116, 0];
     items.lists[row_of(ITEMS)] = names(216)
         .map(|[offset, start, units, ended]| {
             [0, 1, 770, 4, 5, 458_758, offset, start, units, ended]

@@ -104,21 +104,22 @@ fn accepted(blob: &[u8], answer: &Answer) -> Vec<Trait> {
         ));
     }
     for template in answer.entries(TEMPLATES) {
-        let items = match template[4].checked_sub(template[0]) {
+        let items = match template[5].checked_sub(template[1]) {
             None => 0,
             Some(0..40) => 1,
-            Some(from) if from == template[1] => 2,
+            Some(from) if from == template[2] => 2,
             Some(_) => 3,
         };
         traits.push((
             "template",
             [
                 items,
-                few(template[2].into()),
                 few(template[3].into()),
-                few(template[11].into()),
+                few(template[4].into()),
+                few(template[12].into()),
             ],
         ));
+        traits.push(("template's provider", [few(template[0].into()), 0, 0, 0]));
     }
     traits.extend(items(blob, answer));
     traits.extend(long_names(blob, answer));
@@ -140,16 +141,16 @@ fn items(blob: &[u8], answer: &Answer) -> Vec<Trait> {
         let template = templates[item[0] as usize];
         let name = named(blob, ITEMS, item);
         traits.push(("item", [few(item[0].into()), name, 0, 0]));
-        let [first, end] = [template[4], template[4] + 20 * template[2]];
+        let [first, end] = [template[5], template[5] + 20 * template[3]];
         let stands = match item[6] {
             0 => 0,
-            name if name < template[0] + 40 => 1,
+            name if name < template[1] + 40 => 1,
             name if name < first => 2,
             name if name < end => 3,
             _ => 4,
         };
         let shared = before.is_some_and(|before| before[0] == item[0] && before[6] == item[6]);
-        let in_header = u32::from(first < template[0] + 40);
+        let in_header = u32::from(first < template[1] + 40);
         traits.push(("item's name", [stands, in_header, u32::from(shared), 0]));
         for (place, &word) in (0..).zip(&item[1..6]) {
             traits.push(("item's word", [place, few(word.into()), 0, 0]));
