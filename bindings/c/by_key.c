@@ -74,7 +74,7 @@ static void by_events(struct lists *l) {
     fill_lists(l);
     check(found(l, GUIDS_LENT, 2, 72, 71, 0), "each GUID once, in first-seen order, from the first tables of a kind");
     check(too_small(l, 7, 1), "room for one GUID");
-    put_template(l, 1, 200, 71);
+    put_template(l, 1, 0, 200, 71);
     check(found(l, 4, 1, 71, 0, 0), "two templates of one GUID");
     put_event(l, 0, 1001, 0);
     put_event(l, 1, 1001, 400);
@@ -93,6 +93,7 @@ static void by_provider(struct lists *l) {
     put_provider(l, 1, guid_of(5));
     put_table(l, 2, 1, DUCAT_EVNT, 3, 1);
     put_table(l, 3, 1, DUCAT_TTBL, 3, 1);
+    put_template(l, 3, 1, 400, 74);
     check(found(l, 8, 1, 74, 0, 0), "the second provider");
 }
 
@@ -101,19 +102,40 @@ static void by_providers(struct lists *l) {
     put_provider(l, 1, guid_of(5));
     put_table(l, 2, 1, DUCAT_EVNT, 3, 1);
     put_table(l, 3, 1, DUCAT_TTBL, 3, 1);
+    put_template(l, 3, 1, 400, 74);
     check(found(l, GUIDS_LENT, 3, 72, 71, 74), "two providers of one GUID, in their order");
     check(too_small(l, 11, 2), "room for the GUIDs of the first provider alone");
-    put_template(l, 3, 400, 71);
+    put_template(l, 3, 1, 400, 71);
     check(found(l, 8, 2, 72, 71, 0), "a GUID of both once");
-    put_template(l, 3, 400, 74);
-    put_template(l, 2, 300, 73);
+    put_template(l, 3, 1, 400, 74);
+    put_template(l, 2, 0, 300, 73);
     put_event(l, 3, 1001, 300);
     check(found(l, 8, 2, 72, 71, 0), "an event that names the other provider's template");
     put_table(l, 2, 1, DUCAT_EVNT, 0, 3);
-    put_template(l, 3, 100, 74);
+    put_template(l, 3, 1, 100, 74);
     check(found(l, GUIDS_LENT, 3, 72, 71, 74), "events that both have, in the templates of each");
     put_table(l, 3, 1, DUCAT_TTBL, 0, 3);
-    check(found(l, 8, 2, 72, 71, 0), "events and templates that both have");
+    check(refused(l, 8, DUCAT_LISTS_APART), "templates that both have");
+}
+
+/* A TTBL with another provider's template: the one that is used, and one that is not. */
+static void templates_apart(struct lists *l) {
+    for (uint32_t number = 0; number < ROOM; number++) {
+        fill_lists(l);
+        put_template(l, number, 1, 400, 74);
+        check(refused(l, 8, DUCAT_LISTS_APART), "another provider's template in a range");
+        check(refused(l, 0, DUCAT_LISTS_APART), "10 for it before 9");
+        l->words_len--;
+        check(refused(l, 8, DUCAT_BAD_LENDING), "8 before 10 for it");
+    }
+    fill_lists(l);
+    put_template(l, 3, 1, 400, 74);
+    put_table(l, 3, 0, DUCAT_TTBL, 3, 0);
+    check(found(l, 8, 2, 72, 71, 0), "another provider's template in no range");
+    put_table(l, 3, 1, DUCAT_TTBL, 3, 1);
+    check(found(l, 8, 2, 72, 71, 0), "another provider's template in that one's range");
+    put_table(l, 3, 0, DUCAT_TTBL, 1, 2);
+    check(found(l, 8, 2, 72, 71, 0), "templates that two tables of their provider have");
 }
 
 static void apart(struct lists *l) {
@@ -168,6 +190,7 @@ void test_by_key(void) {
     by_provider(&l);
     by_providers(&l);
     apart(&l);
+    templates_apart(&l);
     lengths(&l);
     most(&l);
     free_lists(&l);

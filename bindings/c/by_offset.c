@@ -7,11 +7,16 @@
 
 static uint64_t answer[DUCAT_TEMPLATE_NUMBERS + 1];
 
-/* Looks a template up, and gives the code. */
-static uint32_t look(const struct lists *l, uint32_t first, uint32_t count, uint32_t offset, size_t answer_len) {
+/* Looks a provider's template up, and gives the code. */
+static uint32_t look_of(const struct lists *l, uint32_t provider, uint32_t first, uint32_t count, uint32_t offset, size_t answer_len) {
     memset(answer, 0xff, sizeof answer);
-    return ducat_template_at(l->words, l->words_len, l->capacities, l->capacities_len, l->counts, l->counts_len, first, count,
-                             offset, answer, answer_len);
+    return ducat_template_at(l->words, l->words_len, l->capacities, l->capacities_len, l->counts, l->counts_len, provider, first,
+                             count, offset, answer, answer_len);
+}
+
+/* The first provider's. */
+static uint32_t look(const struct lists *l, uint32_t first, uint32_t count, uint32_t offset, size_t answer_len) {
+    return look_of(l, 0, first, count, offset, answer_len);
 }
 
 static int answered_at(uint64_t code, uint64_t is_there, uint64_t number) {
@@ -43,9 +48,27 @@ static void ranges(const struct lists *l) {
     check(refused(l, UINT32_MAX, 1, 100, DUCAT_LISTS_APART), "a range that would wrap");
 }
 
+/* Looks one of a provider's up, and says whether its number is this one, or there is none. */
+static int found_of(const struct lists *l, uint32_t provider, uint32_t offset, uint64_t is_there, uint64_t number) {
+    return look_of(l, provider, 0, 4, offset, DUCAT_TEMPLATE_NUMBERS) == DUCAT_ACCEPTED &&
+           answered_at(DUCAT_ACCEPTED, is_there, number);
+}
+
+static void providers(struct lists *l) {
+    check(found_of(l, 1, 200, 0, 0), "a template of another provider");
+    check(found_of(l, 2, 200, 0, 0) && found_of(l, UINT32_MAX, 200, 0, 0), "a provider that isn't there is no fault");
+    put_template(l, 1, 1, 200, 72);
+    check(found_of(l, 0, 200, 1, 2), "the search goes on behind another provider's template");
+    check(found_of(l, 1, 200, 1, 1), "the other provider's");
+    put_template(l, 3, UINT32_MAX, 400, 74);
+    check(found_of(l, UINT32_MAX, 400, 1, 3), "a template of a provider that isn't there");
+    fill_lists(l);
+}
+
 void test_by_offset(void) {
     struct lists l = new_lists();
     ranges(&l);
+    providers(&l);
     for (size_t area = 0; area < DUCAT_AREAS; area++) {
         set_count(&l, ducat_areas()[area].list, ROOM + 1);
         check(refused(&l, 0, 4, 400, DUCAT_LISTS_APART), "a count over its capacity");

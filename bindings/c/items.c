@@ -98,7 +98,8 @@ static void found(const struct lending *l) {
     for (uint32_t i = 0; i < SEVERAL; i++) {
         struct ducat_template t;
         check(ducat_entry(l->words, l->capacities, DUCAT_LIST_TEMPLATES, i, &t, sizeof t) == 1 &&
-              t.item_descriptor_count == items_of[i], "a template with items");
+              t.item_descriptor_count == items_of[i] && t.provider_number == (i < TEMPLATES_OF_FIRST ? 0 : 1),
+              "a template with items, and its provider");
         check(ducat_first_item(l->words, l->capacities, l->answer, i) == number, "a template's first item");
         for (uint32_t n = 0; n < items_of[i]; n++, number++) {
             struct ducat_item item, expected = item_of(number);

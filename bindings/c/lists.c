@@ -44,9 +44,10 @@ void put_event(struct lists *l, uint32_t number, uint32_t identifier, uint32_t t
     put_entry(l, DUCAT_LIST_EVENTS, number, &entry, sizeof entry);
 }
 
-void put_template(struct lists *l, uint32_t number, uint32_t offset, uint32_t guid) {
+void put_template(struct lists *l, uint32_t number, uint32_t provider, uint32_t offset, uint32_t guid) {
     struct ducat_template entry;
     memset(&entry, 0, sizeof entry);
+    entry.provider_number = provider;
     entry.offset = offset;
     entry.size = 40;
     entry.guid = guid_of(guid);
@@ -88,10 +89,10 @@ void fill_lists(struct lists *l) {
     put_event(l, 1, 1001, 100);
     put_event(l, 2, 1001, 200);
     put_event(l, 3, 1001, 400);
-    put_template(l, 0, 100, 71);
-    put_template(l, 1, 200, 72);
-    put_template(l, 2, 200, 73);
-    put_template(l, 3, 400, 74);
+    put_template(l, 0, 0, 100, 71);
+    put_template(l, 1, 0, 200, 72);
+    put_template(l, 2, 0, 200, 73);
+    put_template(l, 3, 0, 400, 74);
     set_count(l, DUCAT_LIST_PROVIDERS, 2);
     set_count(l, DUCAT_LIST_TABLES, ROOM);
     set_count(l, DUCAT_LIST_EVENTS, ROOM);

@@ -26,7 +26,7 @@ void fill_lists(struct lists *l);
 void put_provider(struct lists *l, uint32_t number, struct ducat_guid guid);
 void put_table(struct lists *l, uint32_t number, uint32_t provider, uint32_t kind, uint32_t first, uint32_t count);
 void put_event(struct lists *l, uint32_t number, uint32_t identifier, uint32_t template_offset);
-void put_template(struct lists *l, uint32_t number, uint32_t offset, uint32_t guid);
+void put_template(struct lists *l, uint32_t number, uint32_t provider, uint32_t offset, uint32_t guid);
 void set_count(struct lists *l, uint32_t list, uint32_t count);
 
 /* The GUID that stands for a number. */

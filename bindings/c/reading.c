@@ -36,7 +36,7 @@ static void one_template(void) {
     const struct ducat_provider provider = {{{0, 0, 0, 0}}, 36, 80, 0, 1, 0};
     const struct ducat_descriptor descriptor = {64, 0, 0x4c425454};
     const struct ducat_table ttbl = {0, DUCAT_TTBL, 64, 52, 0, 0, 1, 0, 0};
-    const struct ducat_template temp = {76, 40, 0, 0, 0, 0, {{0, 0, 0, 0}}, 116, 0};
+    const struct ducat_template temp = {0, 76, 40, 0, 0, 0, 0, {{0, 0, 0, 0}}, 116, 0};
     const uint32_t *c = l.capacities;
     check(memcmp(l.words + ducat_start(c, DUCAT_LIST_PROVIDERS), &provider, sizeof provider) == 0, "T's provider");
     check(memcmp(l.words + ducat_start(c, DUCAT_LIST_DESCRIPTORS), &descriptor, sizeof descriptor) == 0, "T's descriptor");

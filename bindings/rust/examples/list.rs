@@ -7,9 +7,10 @@ fn list(path: &str) -> Result<(), Box<dyn std::error::Error>> {
     let (events, templates) = (manifest.events().len(), manifest.templates().len());
     println!("crim {size} providers {providers} events {events} templates {templates}");
     for template in manifest.templates() {
-        let (offset, size, binxml) = (template.offset, template.size, template.binxml);
+        let (offset, provider, size) = (template.offset, template.provider, template.size);
+        let binxml = template.binxml;
         let (start, length) = (binxml.start, binxml.bytes.len());
-        println!("template {offset} size {size} binxml {start} {length}");
+        println!("template {offset} provider {provider} size {size} binxml {start} {length}");
     }
     Ok(())
 }

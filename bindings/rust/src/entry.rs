@@ -183,6 +183,8 @@ pub struct MapEntry {
 #[derive(Clone, Copy, Debug, PartialEq, Eq)]
 #[non_exhaustive]
 pub struct Template<'a> {
+    /// The number of the provider that it belongs to.
+    pub provider: u32,
     /// Its place.
     pub offset: u32,
     /// Its size.

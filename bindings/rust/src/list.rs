@@ -41,7 +41,7 @@ const TABLE: &[(List, usize, &str)] = &[
     (List::Events, 16, "events"),
     (List::Maps, 12, "maps"),
     (List::MapEntries, 2, "map entries"),
-    (List::Templates, 12, "templates"),
+    (List::Templates, 13, "templates"),
     (List::UnknownElements, 4, "unknown elements"),
     (List::Items, 10, "items"),
 ];

@@ -111,13 +111,14 @@ impl<'a> Manifest<'a> {
         self.list()
     }
 
-    /// The number of the lowest template at an offset, among those that these are the numbers of;
-    /// nothing if there is none. A range past the list is refused.
+    /// The number of a provider's lowest template at an offset, among those that these are the
+    /// numbers of; nothing if there is none. A range past the list is refused.
     ///
-    /// An event's template is the one at its template offset, among the entries of its provider's
-    /// TTBL.
+    /// An event's template is its provider's at its template offset, among the entries of its
+    /// provider's TTBL.
     pub fn template_at(
         &self,
+        provider: u32,
         entries: Range<usize>,
         offset: u32,
     ) -> Result<Option<usize>, Refusal> {
@@ -129,6 +130,7 @@ impl<'a> Manifest<'a> {
             &self.words,
             self.capacities.in_order(),
             self.counts.in_order(),
+            provider,
             first,
             count,
             offset,
@@ -201,7 +203,7 @@ mod tests {
     fn as_many_words_are_allocated_as_are_needed() {
         let t = include_bytes!("../../../samples/t.bin");
         // A provider, a descriptor, a table and a template.
-        assert_eq!(read(t).unwrap().words.len(), 9 + 3 + 9 + 12);
+        assert_eq!(read(t).unwrap().words.len(), 9 + 3 + 9 + 13);
         let drive = include_bytes!("../../../samples/drive.crim");
         let manifest = read(drive).unwrap();
         assert_eq!(needs(drive), Ok(manifest.counts));

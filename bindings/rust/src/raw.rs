@@ -49,6 +49,7 @@ mod c {
             capacities_len: usize,
             counts: *const u32,
             counts_len: usize,
+            provider: u32,
             first: u32,
             count: u32,
             offset: u32,
@@ -100,13 +101,15 @@ pub fn ducat_needs(blob: &[u8], answer: &mut [u64]) -> u32 {
     unsafe { c::ducat_needs(blob.as_ptr(), blob.len(), answer.as_mut_ptr(), answer.len()) }
 }
 
-/// Finds the lowest template at an offset among the entries of list 9 from `first` on, `count` of
-/// them; gives the code. A capacity and a count for each list and [`TEMPLATE_NUMBERS`] numbers are
-/// expected: any other length is code 8.
+/// Finds a provider's lowest template at an offset among the entries of list 9 from `first` on,
+/// `count` of them; gives the code. The provider's number is compared with the entries', no more.
+/// A capacity and a count for each list and [`TEMPLATE_NUMBERS`] numbers are expected: any other
+/// length is code 8.
 pub fn ducat_template_at(
     words: &[u32],
     capacities: &[u32],
     counts: &[u32],
+    provider: u32,
     first: u32,
     count: u32,
     offset: u32,
@@ -121,6 +124,7 @@ pub fn ducat_template_at(
             capacities.len(),
             counts.as_ptr(),
             counts.len(),
+            provider,
             first,
             count,
             offset,

@@ -259,6 +259,7 @@ impl FromWords<'_> for MapEntry {
 impl<'a> FromWords<'a> for Template<'a> {
     fn from_words(words: Words<'a>) -> Template<'a> {
         let [
+            provider,
             offset,
             size,
             item_descriptor_count,
@@ -273,6 +274,7 @@ impl<'a> FromWords<'a> for Template<'a> {
             length,
         ] = exactly(&words);
         Template {
+            provider,
             offset,
             size,
             item_descriptor_count,

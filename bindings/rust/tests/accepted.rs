@@ -47,12 +47,13 @@ fn a_block_with_one_template() {
     let manifest = read(&blob).unwrap();
     assert_eq!(counts(&manifest), t_needs());
     let template = manifest.templates().next().unwrap();
-    assert_eq!((template.offset, template.size), (76, 40));
+    let at = (template.provider, template.offset, template.size);
+    assert_eq!(at, (0, 76, 40));
     assert_eq!(
         (template.binxml.start, template.binxml.bytes),
         (116, &[][..])
     );
-    let entry = [76, 40, 0, 0, 0, 0, 0, 0, 0, 0, 116, 0];
+    let entry = [0, 76, 40, 0, 0, 0, 0, 0, 0, 0, 0, 116, 0];
     assert_eq!(manifest.words(List::Templates), entry);
     let table = manifest.tables().next().unwrap();
     assert_eq!((table.kind, table.entries), (Kind::Ttbl, 0..1));

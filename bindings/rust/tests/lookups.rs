@@ -251,30 +251,31 @@ fn by_offset() {
         .collect();
     assert_eq!(tables, [0..2, 2..5]);
     for (number, template) in manifest.templates().enumerate() {
-        let own = usize::from(number >= 2);
-        for (table, entries) in tables.iter().enumerate() {
+        let own = u32::from(number >= 2);
+        assert_eq!(template.provider, own);
+        for (table, entries) in (0..).zip(&tables) {
             let expected = (table == own).then_some(number);
-            let found = manifest.template_at(entries.clone(), template.offset);
+            let found = manifest.template_at(own, entries.clone(), template.offset);
             assert_eq!(found, Ok(expected));
         }
-        assert_eq!(
-            manifest.template_at(0..5, template.offset),
-            Ok(Some(number))
-        );
         let alone = number..number + 1;
-        assert_eq!(
-            manifest.template_at(alone, template.offset),
-            Ok(Some(number))
-        );
-        assert_eq!(
-            manifest.template_at(number..number, template.offset),
-            Ok(None)
-        );
-        assert_eq!(manifest.template_at(0..5, template.offset + 1), Ok(None));
+        for range in [0..5, alone] {
+            let by = |provider| manifest.template_at(provider, range.clone(), template.offset);
+            assert_eq!(by(own), Ok(Some(number)));
+            // Another provider has none there; nor has one that isn't there, which is no fault.
+            for other in [1 - own, 2, u32::MAX] {
+                assert_eq!(by(other), Ok(None));
+            }
+        }
+        let none = number..number;
+        assert_eq!(manifest.template_at(own, none, template.offset), Ok(None));
+        let beside = template.offset + 1;
+        assert_eq!(manifest.template_at(own, 0..5, beside), Ok(None));
     }
     let event = manifest.events().next().unwrap();
     let offset = event.template_offset.unwrap();
-    assert_eq!(manifest.template_at(tables[1].clone(), offset), Ok(Some(4)));
+    let found = manifest.template_at(1, tables[1].clone(), offset);
+    assert_eq!(found, Ok(Some(4)));
 }
 
 #[test]
@@ -285,11 +286,11 @@ fn ranges_past_the_list() {
     let mut words = vec![0; capacities.words().unwrap()];
     let manifest = read_into(&blob, &capacities, &mut words).unwrap();
     let offset = manifest.templates().next().unwrap().offset;
-    assert_eq!(manifest.template_at(2..2, offset), Ok(None));
+    assert_eq!(manifest.template_at(0, 2..2, offset), Ok(None));
     let backwards = Range { start: 2, end: 0 };
-    assert_eq!(manifest.template_at(backwards, offset), Ok(None));
+    assert_eq!(manifest.template_at(0, backwards, offset), Ok(None));
     for range in [0..3, 1..3, 3..3, 2..usize::MAX, usize::MAX..usize::MAX] {
-        let refusal = manifest.template_at(range, offset).unwrap_err();
+        let refusal = manifest.template_at(0, range, offset).unwrap_err();
         assert_eq!((refusal, refusal.code()), (Refusal::ListsApart, 10));
     }
     assert_eq!(
@@ -358,16 +359,22 @@ impl Lent {
         self.put(List::Events, &[(0, identifier), (9, offset)])
     }
 
-    fn template(&mut self, offset: u32, guid: u32) -> &mut Lent {
-        self.put(List::Templates, &[(0, offset), (9, guid)])
+    fn template(&mut self, provider: u32, offset: u32, guid: u32) -> &mut Lent {
+        self.put(List::Templates, &[(0, provider), (1, offset), (10, guid)])
     }
 
+    /// Of provider 0.
     fn at(&self, first: u32, count: u32, offset: u32) -> [u64; 6] {
+        self.of(0, first, count, offset)
+    }
+
+    fn of(&self, provider: u32, first: u32, count: u32, offset: u32) -> [u64; 6] {
         let mut answer = [99; 6];
         let code = raw::ducat_template_at(
             &self.words,
             self.capacities.in_order(),
             self.counts.in_order(),
+            provider,
             first,
             count,
             offset,
@@ -418,8 +425,8 @@ fn lists() -> Lent {
     lent.table(0, Kind::Ttbl, 0, 1).table(1, Kind::Evnt, 0, 3);
     lent.table(1, Kind::Ttbl, 1, 3).table(1, Kind::Chan, 0, 0);
     lent.event(1, 200).event(1, 300).event(2, 400);
-    lent.template(100, 60).template(200, 70);
-    lent.template(300, 71).template(400, 72);
+    lent.template(0, 100, 60).template(1, 200, 70);
+    lent.template(1, 300, 71).template(1, 400, 72);
     lent.put(List::Definitions, &[]).put(List::Definitions, &[]);
     lent.put(List::Maps, &[]);
     lent
@@ -428,7 +435,8 @@ fn lists() -> Lent {
 #[test]
 fn the_lowest_of_two_at_one_offset() {
     let mut lent = Lent::new(6);
-    lent.template(100, 1).template(200, 2).template(200, 3);
+    lent.template(0, 100, 1);
+    lent.template(0, 200, 2).template(0, 200, 3);
     assert_eq!(lent.at(0, 3, 200), [0, 0, 0, 0, 1, 1]);
     assert_eq!(lent.at(2, 1, 200), [0, 0, 0, 0, 1, 2]);
     assert_eq!(lent.at(0, 1, 100), [0, 0, 0, 0, 1, 0]);
@@ -437,7 +445,7 @@ fn the_lowest_of_two_at_one_offset() {
     assert_eq!(lent.at(3, 0, 100), [0; 6]);
     // 0 is an offset as any other here.
     assert_eq!(lent.at(0, 3, 0), [0; 6]);
-    *lent.word(List::Templates, 2, 0) = 0;
+    *lent.word(List::Templates, 2, 1) = 0;
     assert_eq!(lent.at(0, 3, 0), [0, 0, 0, 0, 1, 2]);
     // What stands behind the list's entries doesn't count, nor does a fault of other lists.
     assert_eq!(lent.at(0, 3, NOT_TOUCHED), [0; 6]);
@@ -448,8 +456,76 @@ fn the_lowest_of_two_at_one_offset() {
     let mut lent = Lent::new(6);
     lent.provider(5).event(1, 200);
     lent.table(0, Kind::Evnt, 0, 1).table(0, Kind::Ttbl, 0, 3);
-    lent.template(100, 1).template(200, 2).template(200, 3);
+    lent.template(0, 100, 1);
+    lent.template(0, 200, 2).template(0, 200, 3);
     assert_eq!(lent.guids(4), ([0, 0, 0, 0, 1], vec![2]));
+}
+
+#[test]
+fn another_providers_at_the_offset() {
+    let mut lent = Lent::new(6);
+    lent.template(3, 200, 1).template(0, 100, 2);
+    lent.template(7, 200, 3).template(3, 200, 4);
+    // It is no match, and the search goes on behind it.
+    assert_eq!(lent.of(7, 0, 4, 200), [0, 0, 0, 0, 1, 2]);
+    assert_eq!(lent.of(3, 1, 3, 200), [0, 0, 0, 0, 1, 3]);
+    assert_eq!(lent.of(3, 0, 4, 200), [0, 0, 0, 0, 1, 0]);
+    assert_eq!(lent.of(0, 0, 4, 200), [0; 6]);
+    assert_eq!(lent.of(0, 0, 4, 100), [0, 0, 0, 0, 1, 1]);
+    // Not one of these providers is there: the number is compared, no more.
+    *lent.word(List::Templates, 1, 0) = u32::MAX;
+    assert_eq!(lent.of(u32::MAX, 0, 4, 100), [0, 0, 0, 0, 1, 1]);
+    assert_eq!(lent.of(0, 0, 4, 100), [0; 6]);
+    // Nor is a template's place its provider's number.
+    assert_eq!(lent.of(200, 0, 4, 3), [0; 6]);
+}
+
+#[test]
+fn another_providers_in_a_range() {
+    // Word 0 of template 1, which provider 1's first TTBL has.
+    let mut lent = lists();
+    for other in [0, 2, u32::MAX] {
+        *lent.word(List::Templates, 1, 0) = other;
+        assert_eq!(lent.guids(8), refused(10));
+        // 10 comes before 9, and whatever provider is asked for.
+        assert_eq!(lent.guids(0), refused(10));
+        *lent.word(List::Providers, 1, 0) = 99;
+        assert_eq!(lent.guids(8), refused(10));
+        *lent.word(List::Providers, 1, 0) = 5;
+        // 8 comes before it.
+        let words = lent.words.len();
+        lent.words.truncate(words - 2);
+        assert_eq!(lent.guids(8), refused(8));
+        lent.words.resize(words, NOT_TOUCHED);
+    }
+    // The first and the last of a range are in it, those beside it are not.
+    for (number, code) in [(0, 0), (1, 10), (2, 10), (3, 10)] {
+        let mut lent = lists();
+        *lent.word(List::Tables, 0, 6) = 0;
+        *lent.word(List::Templates, number, 0) = 7;
+        assert_eq!(lent.guids(8).0[0], code);
+    }
+    // A table that isn't used: of another provider, and a provider's second.
+    for (provider, first, code) in [(0, 0, 0), (0, 1, 10), (1, 0, 10), (1, 3, 0)] {
+        let mut lent = lists();
+        lent.table(provider, Kind::Ttbl, first, 1);
+        assert_eq!(lent.guids(8).0[0], code);
+        // An empty range has none.
+        *lent.word(List::Tables, 4, 6) = 0;
+        assert_eq!(lent.guids(8).1, [70, 71]);
+        // Only a TTBL's is one of templates.
+        *lent.word(List::Tables, 4, 1) = Kind::Evnt as u32;
+        *lent.word(List::Tables, 4, 5) = 0;
+        *lent.word(List::Tables, 4, 6) = 3;
+        assert_eq!(lent.guids(8).1, [70, 71]);
+    }
+    // A template in no table's range.
+    let mut lent = lists();
+    lent.template(7, 200, 73);
+    assert_eq!(lent.guids(8).1, [70, 71]);
+    // A range that two tables of one provider have.
+    lent.table(1, Kind::Ttbl, 1, 3).table(1, Kind::Ttbl, 2, 2);
+    assert_eq!(lent.guids(8).1, [70, 71]);
 }
 
 #[test]
@@ -517,6 +593,7 @@ fn lengths_of_the_calls() {
             &lent.words,
             &cut(&lent.capacities, capacities),
             &cut(&lent.counts, counts),
+            0,
             0,
             1,
             100,
@@ -592,8 +669,8 @@ fn ranges_of_two_providers() {
             lent.table(provider, Kind::Evnt, first, count);
         }
         lent.event(1, 50).event(1, 90).event(1, 76).event(1, 60);
-        lent.template(50, 5).template(76, 8);
-        lent.template(60, 5).template(90, 9);
+        lent.template(0, 50, 5).template(2, 76, 8);
+        lent.template(2, 60, 5).template(2, 90, 9);
         lent
     };
     let apart = with_events([(2, 2), (0, 2)]);
@@ -623,10 +700,12 @@ fn tables_that_do_not_fit() {
         (Kind::Ttbl, List::Templates),
     ];
     for (kind, list) in kinds {
-        // The last table, of a provider that isn't asked for, fits its own list exactly.
+        // The last table, of a provider that isn't asked for, fits its own list exactly. The one
+        // before it too, and of the templates it has those of its provider.
         let mut fitting = lists();
         let count = fitting.counts.of(list);
-        fitting.table(0, kind, 0, count);
+        let own = u32::from(kind == Kind::Ttbl);
+        fitting.table(own, kind, own, count - own);
         fitting.table(0, kind, count, 0);
         assert_eq!(fitting.guids(8).1, [70, 71]);
         let faults = [
@@ -661,10 +740,12 @@ fn the_first_table_of_a_kind() {
     lent.table(0, Kind::Ttbl, 1, 1).table(0, Kind::Evnt, 1, 1);
     lent.table(0, Kind::Evnt, 0, 1).table(0, Kind::Ttbl, 0, 2);
     lent.event(1, 100).event(1, 200);
-    lent.template(100, 70).template(200, 71);
+    lent.template(0, 100, 70).template(0, 200, 71);
+    lent.template(1, 100, 72);
     assert_eq!(lent.guids(8).1, [71]);
     // Another provider's tables before them don't matter.
     *lent.word(List::Tables, 0, 0) = 1;
+    *lent.word(List::Tables, 0, 5) = 2;
     *lent.word(List::Tables, 1, 0) = 1;
     lent.provider(6);
     assert_eq!(lent.guids(8).1, [70]);
@@ -682,6 +763,6 @@ fn a_provider_without_events_before() {
     // Its events, in templates of its own.
     *lent.word(List::Tables, 1, 6) = 3;
     assert_eq!(lent.guids(8), refused(0));
-    *lent.word(List::Tables, 0, 5) = 1;
-    assert_eq!(lent.guids(8).1, [70]);
+    *lent.word(List::Templates, 0, 1) = 200;
+    assert_eq!(lent.guids(8).1, [60]);
 }
