@@ -1,30 +1,28 @@
 -- What the answer and the lent words of a reading tell is the listing.
-use Prim.Native.Nat.{ℕ, zero, suc, _+_, _*_, _≤_, _<_}
+use Prim.Native.Nat.{ℕ, zero, suc, _+_, _≤_, _<_}
 use mathlib.Core.Path.{_≡_, refl, ap, ap₂, sym, _∙_}
 use mathlib.Core.Bool.{Bool, true, false}
 use mathlib.Core.List.{List, [], _∷_, _++_, map, append-nil}
 use native.Mathlib.Nat.{add-zero, zero-add}
 use native.Mathlib.Omega.{arith}
-use lib.ListN.{length, getD, set, length-set, length-map, length-take, take, drop, replicate}
-use lib.Seq.{take-all, ext-getD, getD-take, getD-drop, getD-set-same, getD-set-other, getD-append-add}
+use lib.ListN.{length, getD, set, length-set, length-take, take, drop, replicate}
+use lib.Seq.{take-all, ext-getD, getD-take, getD-drop, getD-set-same, getD-set-other}
 use lib.Dec.{leb}
 use borrow.Author.Tests.{le-leb, lt-leb, leb-true, leb-false}
 use Rattle.blob.specs.Reading.{Outcome, done, refused}
-use Rattle.blob.specs.Laid.{laid, length-laid, flat, flat-map, map-flat}
-use Rattle.blob.specs.Laws.{same, choose-done, then-done, length-flat}
+use Rattle.blob.specs.Laid.{laid, length-laid, flat}
+use Rattle.blob.specs.Laws.{same, choose-done, then-done}
 use Rattle.format.specs.Crim.{Crim}
-use Rattle.format.specs.Provider.{Provider}
-use Rattle.format.specs.Area.{PROVIDERS, EVENTS, TEMPLATES, Row, rows, place, width, of}
+use Rattle.format.specs.Area.{PROVIDERS, EVENTS, TEMPLATES, rows, place, width, of}
 use Rattle.format.specs.Entry.{TEMPLATE-PROVIDER, TEMPLATE-OFFSET, TEMPLATE-SIZE, TEMPLATE-START, TEMPLATE-LENGTH}
-use Rattle.format.specs.Lists.{Entry, lists, ownedTables, templatesIn, templateWords}
+use Rattle.format.specs.Lists.{lists}
 use Rattle.format.specs.Lookup.{entriesFrom}
 use Rattle.format.specs.theorems.Taken.{taken}
-use Rattle.format.specs.Answer.{areas, lent-enough, reading, answer, filled, held}
+use Rattle.format.specs.Answer.{areas, lent-enough, reading, answer, held}
 use Rattle.format.specs.Listing.{Piece, templateLine, lines, listing, sixty-four}
 use Rattle.format.specs.theorems.Codes.{refused-code}
 use Rattle.format.specs.theorems.Block.{reading-crim}
 use Rattle.format.specs.declared.Answer.{Answer}
-use Rattle.format.specs.Template.{Template}
 use Rattle.areas.specs.Areas.{list-fits}
 use Rattle.listing.specs.Rendered.{characters, newline, line, rendered}
 use Rattle.listing.specs.Put.{Put, refusalLine, blockLine, linesFrom, lent, templates-at, acceptedText}

@@ -19,7 +19,7 @@ use Rattle.format.specs.Lookup.{entriesFrom, entriesOf, wordOf, select, positio
 use Rattle.lists.specs.declared.Found.the-variants as founds
 use Rattle.lists.specs.declared.Run.{Run}
 use Rattle.lists.specs.Entries.{part-entries, entry, entries-length, word-at}
-use Rattle.lists.specs.Found.{entries, few, runOf, has, found, tablesHold, Fit, tableOf, rangeIn, owned}
+use Rattle.lists.specs.Found.{entries, few, runOf, has, found, tablesHold, Fit, tableOf, rangeIn}
 use Rattle.lists.specs.Fit.{inside, whole-entries}
 use Rattle.lists.specs.Search.{position-same, has-two, position-found, select-found, select-none}
 

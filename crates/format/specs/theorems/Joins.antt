@@ -10,25 +10,26 @@ use native.Mathlib.Omega.{arith}
 use lib.ListN.{length, getD, take, drop, length-set, length-map, length-append}
 use lib.Seq.{getD-set-same, getD-drop}
 use lib.Dec.{leb, eqb}
-use borrow.Author.Tests.{lt-ltb, le-leb}
+use borrow.Author.Tests.{ne-eqb, lt-ltb, le-leb}
 use Rattle.blob.specs.Reading.{Outcome, done, refused, choose}
 use Rattle.blob.specs.Laws.{choose-done}
 use Rattle.blob.specs.Laid.{flat, flat-map}
 use Rattle.format.specs.Area.{PROVIDERS, TABLES, EVENTS, TEMPLATES, GUIDS, Row, rows, place, none, of}
-use Rattle.format.specs.Entry.{GUID, EVENT-TEMPLATE, TEMPLATE-OFFSET, TEMPLATE-GUID}
+use Rattle.format.specs.Entry.{GUID, EVENT-TEMPLATE, TEMPLATE-PROVIDER, TEMPLATE-OFFSET, TEMPLATE-GUID}
 use Rattle.format.specs.Table.{EVNT, TTBL}
 use Rattle.format.specs.Provider.{Rows, definitions, events, maps, templates, Table, Provider}
 use Rattle.format.specs.Crim.{Crim, crim}
-use Rattle.format.specs.Lists.{Entry, kept, Owned, ownedTables, listOf, rowCount, after, tableEntries, guidWords, providerWords, eventWords, templateWords, eventsIn, templatesIn, lists}
+use Rattle.format.specs.Lists.{Entry, kept, Owned, ownedTables, listOf, rowCount, after, tableEntries, guidWords, providerWords, eventWords, templateWords, templatesIn, lists}
 use Rattle.format.specs.Answer.{own, too-small, lent-enough, with-room, reading, counted, answer, held, Allowed}
 use Rattle.format.specs.Lookup.{entriesOf, wordOf, counts-fit, select, position, positions, numbered, matches, byOffset, alike, once, tablesFit, tablesOwn, ownedBy, keyed, guidAtOffset, guidsOf, byKey}
 use Rattle.format.specs.Join.{those, the-first, eventsOf, templatesOf, asked, guidsFrom, join}
+use Rattle.format.specs.steps.Needs.{of-tables}
 use Rattle.format.specs.steps.Parts.{behindAll}
 use Rattle.format.specs.theorems.Grows.{behindAll-grows}
-use Rattle.format.specs.theorems.Listed.{owned, itemized, lists-itemized, First}
+use Rattle.format.specs.theorems.Listed.{owned, ownedWords, owned-then, itemized, lists-itemized, First}
 use Rattle.format.specs.theorems.Needed.{mapList-length, ownedWords-length}
 use Rattle.format.specs.theorems.Fits.{tables, ends, tables-end}
-use Rattle.format.specs.theorems.Known.{All, Known, Sound, owned-known, known}
+use Rattle.format.specs.theorems.Known.{All, all-append, all-part, Known, Sound, owned-known, known}
 use Rattle.format.specs.theorems.Codes.{refused-code}
 use Rattle.format.specs.theorems.Taken.{read, filled-length, taken}
 use Rattle.format.specs.theorems.Ranges.{eventItems, templateItems, events-range, templates-range, tables-own}
@@ -166,6 +167,21 @@ module _ (key : Key) where
       (λ qs p rs e. subst (λ (ps : List Provider). All (λ p. All Known (kept (p .elements))) ps → foundOf ps (length qs) ≡ guidsFrom key p) (sym e) (one-join qs p rs) a)
       [] ps refl)
 
+-- Each template's number is a provider's; so a number that is none's finds no template.
+owners : (m n : ℕ) (ps : List Provider) → n + length ps ≤ m → All (λ e. wordOf TEMPLATE-PROVIDER e < m) (ownedWords templateWords templatesIn n ps)
+unfolding flat ownedTables
+owners m n [] h = tt
+owners m n (p ∷ ps) h = rw (owned-then templateWords templatesIn n p ps) (all-append _ (map (templateWords n) (of-tables templatesIn p)) _ (mine (of-tables templatesIn p)) (owners m (suc n) ps (omega arith)))
+  where
+    mine : (ts : List Template) → All (λ e. wordOf TEMPLATE-PROVIDER e < m) (map (templateWords n) ts)
+    mine [] = tt
+    mine (t ∷ ts) = (omega arith, mine ts)
+
+none-matches : (m provider offset n : ℕ) (es : List Entry) → m ≤ provider → All (λ e. wordOf TEMPLATE-PROVIDER e < m) es → position (matches provider offset) n es ≡ []
+unfolding position
+none-matches m provider offset n [] h a = refl
+none-matches m provider offset n (e ∷ es) h a = rw (ne-eqb (wordOf TEMPLATE-PROVIDER e) provider (λ q. omega (arith, a .0))) (none-matches m provider offset (suc n) es h (a .1))
+
 -- An accepted reading, with a capacity for each list: what it leaves in the lent words, and what it counts.
 module _ (bytes words capacities : List ℕ) (c : Crim) (e : reading bytes words capacities ≡ done c) (n : length capacities ≡ length rows) where
   pub lent-still : lent-enough capacities (held words capacities (done c)) ≡ true
@@ -207,6 +223,14 @@ module _ (bytes words capacities : List ℕ) (c : Crim) (e : reading bytes words
       (template.Refused (own 10)))
   unfolding byOffset lists
   offset-joins provider first count offset = rw (lent-still, counts-room, taken bytes words capacities c e n (place TEMPLATES) (omega arith))
+
+  pub offset-nobodys : (provider first count offset : ℕ) → length (c .providers) ≤ provider → first + count ≤ length (getD (lists (c .providers)) (place TEMPLATES) [])
+      → byOffset (held words capacities (done c)) capacities (counted (lists (c .providers))) provider first count offset ≡ template.Nothing
+  unfolding lists
+  offset-nobodys provider first count offset h g =
+      let ps = c .providers in
+      offset-joins provider first count offset
+      ∙ rw (le-leb _ _ g, none-matches (length ps) provider offset first (take count (drop first (templateList ps))) h (all-part _ count first (templateList ps) (owners (length ps) 0 ps (omega arith))))
 
   -- by key: never 10, and else 8 only for the lent list itself; the GUIDs are those of the join of what was read
   pub key-joins : (key : Key) (lent : List ℕ) → byKey (held words capacities (done c)) capacities (counted (lists (c .providers))) key lent

@@ -5,7 +5,7 @@ use mathlib.Core.Path.{_≡_, refl}
 use mathlib.Core.Bool.{Bool, true, false}
 use mathlib.Core.List.{List, [], _∷_, _++_}
 use native.Mathlib.Omega.{arith}
-use lib.ListN.{length, take}
+use lib.ListN.{length, take, drop}
 use lib.Dec.{eqb}
 use Rattle.blob.specs.Reading.{Reading, got, done, choose, run, _>>=_, many, each}
 use Rattle.blob.specs.Laws.{same, then-done}
@@ -28,9 +28,16 @@ abbrev pub All : {A : Type 0} → (A → Type 0) → List A → Type 0
 All P [] = Unit {0}
 All P (a ∷ vs) = P a × All P vs
 
-all-append : {A : Type 0} (P : A → Type 0) (xs ys : List A) → All P xs → All P ys → All P (xs ++ ys)
+pub all-append : {A : Type 0} (P : A → Type 0) (xs ys : List A) → All P xs → All P ys → All P (xs ++ ys)
 all-append P [] ys h g = g
 all-append P (x ∷ xs) ys h g = (h .0, all-append P xs ys (h .1) g)
+
+pub all-part : {A : Type 0} (P : A → Type 0) (n m : ℕ) (vs : List A) → All P vs → All P (take n (drop m vs))
+all-part P zero m vs h = tt
+all-part P (suc n) zero [] h = tt
+all-part P (suc n) zero (v ∷ vs) h = (h .0, all-part P n zero vs (h .1))
+all-part P (suc n) (suc m) [] h = tt
+all-part P (suc n) (suc m) (v ∷ vs) h = all-part P (suc n) m vs (h .1)
 
 -- a table of a kind, with its records in the kind's list
 pub record Known (t : Table) : Type 0 where

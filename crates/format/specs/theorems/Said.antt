@@ -7,13 +7,13 @@ use mathlib.Core.Logic.{_↔_}
 use mathlib.Core.Bool.{Bool, true, false, _&&_}
 use mathlib.Core.List.{List, [], _∷_}
 use lib.ListN.{length, take, drop}
-use lib.Dec.{leb, eqb}
+use lib.Dec.{leb}
 use Rattle.blob.specs.declared.Refusal.{Refusal}
 use Rattle.blob.specs.declared.Verdict.the-variants as verdicts
 use Rattle.blob.specs.Reading.{Outcome, done, refused, choose, then, answer, verdict}
 use Rattle.format.specs.Area.{TEMPLATES, of}
 use Rattle.format.specs.Answer.{own, lent-enough, capped}
-use Rattle.format.specs.Lookup.{entriesOf, wordOf, counts-fit, position, numbered, byOffset, guidsFound}
+use Rattle.format.specs.Lookup.{entriesOf, counts-fit, position, numbered, byOffset, guidsFound}
 use Rattle.format.specs.Says.{verdictTold, endTold, headerTold, mapTold, entriesTold, crimTold, wevtTold, guidsTold, templateTold}
 use Rattle.format.specs as format
 

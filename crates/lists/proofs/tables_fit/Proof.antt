@@ -8,7 +8,7 @@ use Rattle.format.specs.Area.{TABLES, TEMPLATES, place, width}
 use Rattle.format.specs.Table.{TTBL}
 use Rattle.format.specs.Lists.{Entry}
 use Rattle.format.specs.Lookup.{entriesFrom, entriesOf}
-use Rattle.lists.specs.Found.{entries, few, rangeWithin, runOf, tablesHold}
+use Rattle.lists.specs.Found.{entries, few, rangeWithin, tablesHold}
 use Rattle.lists.specs.Fit.{inside, whole-few, whole-entries}
 use Rattle.lists.specs.Tables.{tables-fine, tables-unfit, tables-foreign, tables-none, fits-range}
 use borrow.Author.Needs.{needs}
