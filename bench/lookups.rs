@@ -12,6 +12,9 @@ use crate::writer::Writer;
 /// The words of a GUID; each provider has it.
 const GUID: [u32; 4] = [1, 2, 3, 4];
 
+/// No provider has it.
+const UNKNOWN: [u32; 4] = [9; 4];
+
 /// No template stands there.
 const NOWHERE: u32 = 1;
 
@@ -52,23 +55,33 @@ impl Lists {
         answer[4]
     }
 
-    /// Gives every EVNT and every TTBL the whole of its list, as no reading does; but only the last
-    /// EVNT has the last event.
-    fn share(&mut self) {
-        let before = List::all().take_while(|&list| list != List::Tables);
-        let start = before.map(|list| list.words() * self.counts.of(list) as usize);
+    /// The entries of a list.
+    fn entries(&mut self, list: List) -> impl Iterator<Item = &mut [u32]> {
+        let before = List::all().take_while(|&other| other != list);
+        let start = before.map(|other| other.words() * self.counts.of(other) as usize);
         let start: usize = start.sum();
-        let length = List::Tables.words();
-        let [events, templates] = [List::Events, List::Templates].map(|list| self.counts.of(list));
+        let all = list.words() * self.counts.of(list) as usize;
+        self.words[start..start + all].chunks_exact_mut(list.words())
+    }
+
+    /// Gives every EVNT all events, as no reading does; but only the last one has the last event.
+    fn share_events(&mut self) {
+        let events = self.counts.of(List::Events);
         let last = self.counts.of(List::Providers) - 1;
-        for table in 0..self.counts.of(List::Tables) as usize {
-            let table = &mut self.words[start + length * table..][..length];
+        for table in self.entries(List::Tables).filter(|table| table[1] == 2) {
             table[5] = 0;
-            table[6] = match table[1] {
-                2 if table[0] < last => events - 1,
-                2 => events,
-                _ => templates,
-            };
+            table[6] = events - u32::from(table[0] < last);
+        }
+    }
+
+    /// Makes every table a TTBL of the first provider that has all templates, as no reading does.
+    fn share_templates(&mut self) {
+        let templates = self.counts.of(List::Templates);
+        for table in self.entries(List::Tables) {
+            [table[0], table[1], table[5], table[6]] = [0, 8, 0, templates];
+        }
+        for template in self.entries(List::Templates) {
+            template[0] = 0;
         }
     }
 }
@@ -182,7 +195,7 @@ pub fn ordinary() {
         let block = block(providers, events / providers, templates / providers);
         let last = events / providers - 1;
         let [mut unknown, mut none, mut one] = [(); 3].map(|()| Lists::read(&block));
-        let asked = [key([9; 4], last), key(GUID, u32::MAX), key(GUID, last)];
+        let asked = [key(UNKNOWN, last), key(GUID, u32::MAX), key(GUID, last)];
         assert_eq!(unknown.look_up(&asked[0]), 0);
         assert_eq!(none.look_up(&asked[1]), 0);
         assert_eq!(one.look_up(&asked[2]), 1);
@@ -233,33 +246,34 @@ pub fn hostile_lists() {
     println!("|---|--:|--:|--:|");
     for each in [2048_u32, 16_384] {
         let mut lists = Lists::read(&hostile(1, each, each));
-        row("events × templates", &[each, each], 1, &mut lists);
+        row("events × templates", &[each, each], GUID, 1, &mut lists);
     }
     for each in [2048_u32, 16_384] {
         let mut lists = Lists::read(&given(each));
-        row("GUIDs × templates", &[each, each], each, &mut lists);
+        row("GUIDs × templates", &[each, each], GUID, each, &mut lists);
     }
     for providers in [4096_u32, 32_768] {
         let mut lists = Lists::read(&hostile_providers(providers));
-        row("providers × tables", &[providers; 2], 1, &mut lists);
+        row("providers × tables", &[providers; 2], GUID, 1, &mut lists);
     }
-    for (providers, each) in [(16_u32, 64), (64, 64)] {
-        let mut lists = Lists::read(&hostile(providers, each, each));
-        lists.share();
-        let all = providers * each;
-        row(
-            "providers × events × templates",
-            &[providers, all, all],
-            1,
-            &mut lists,
-        );
+    for providers in [128_u32, 1024] {
+        let mut lists = Lists::read(&hostile(providers, 64, 1));
+        lists.share_events();
+        let factors = [providers, 64 * providers];
+        row("providers × events", &factors, GUID, 1, &mut lists);
+    }
+    for each in [2048_u32, 16_384] {
+        let mut lists = Lists::read(&hostile(each / 2, 1, 2));
+        lists.share_templates();
+        row("TTBLs × templates", &[each, each], UNKNOWN, 0, &mut lists);
     }
     println!();
 }
 
-/// The least time of half a second's lookups, or of one that takes longer; so many GUIDs are given.
-fn row(name: &str, factors: &[u32], given: u32, lists: &mut Lists) {
-    let key = key(GUID, 0);
+/// The least time of half a second's lookups, or of one that takes longer, of a key of a GUID; so
+/// many GUIDs are given.
+fn row(name: &str, factors: &[u32], guid: [u32; 4], given: u32, lists: &mut Lists) {
+    let key = key(guid, 0);
     let mut least = f64::INFINITY;
     let start = Instant::now();
     while least.is_infinite() || start.elapsed().as_millis() < 500 {
