@@ -163,7 +163,7 @@ fn main() -> std::io::Result<()> {
         for (part, word) in (0..).zip(provider.guid) {
             w.set(16 + 20 * number + 4 * part, word);
         }
-        let wevt = write(&mut w, number << 28, provider, &mut told);
+        let wevt = write(&mut w, number, provider, &mut told);
         w.provider(number, wevt);
     }
     let block = w.close();
@@ -178,14 +178,15 @@ fn main() -> std::io::Result<()> {
     std::fs::write(folder.join("t.bin"), small::t())
 }
 
-/// A provider's tables and its WEVT, with message identifiers from a number on; gives the WEVT's place.
-fn write(w: &mut Writer, message: u32, provider: &Provider, told: &mut Told) -> u32 {
+/// The tables and the WEVT of the provider with a number; gives the WEVT's place.
+fn write(w: &mut Writer, number: u32, provider: &Provider, told: &mut Told) -> u32 {
+    let message = number << 28;
     let mut elements = Vec::new();
     let all = &mut elements;
     table(w, all, b"CHAN", provider.channels, |i, name| {
         vec![15 + i, name, 0, NONE]
     });
-    let templates = templates(w, all, provider.events, told);
+    let templates = templates(w, all, number, provider.events, told);
     let levels = table(w, all, b"LEVL", &LEVELS, |i, name| {
         vec![1 + i, 0x5000_0001 + i, name]
     });
@@ -259,10 +260,11 @@ fn table(
     records
 }
 
-/// A template for each event that carries something, and what is told of it; gives their places, 0 for none.
+/// A template for each event of a provider that carries something, and what is told of it; gives their places, 0 for none.
 fn templates(
     w: &mut Writer,
     elements: &mut Vec<u32>,
+    provider: u32,
     events: &[Event],
     told: &mut Told,
 ) -> Vec<u32> {
@@ -290,7 +292,8 @@ fn templates(
         w.named_items(temp, items);
         w.end(temp);
         let (size, start, length) = (w.here() - temp, temp + 40, binxml.len());
-        told.listing += &format!("template {temp} size {size} binxml {start} {length}\n");
+        told.listing += &format!("template {temp} provider {provider} size {size} ");
+        told.listing += &format!("binxml {start} {length}\n");
         told.fields += &fields(temp, values);
         places.push(temp);
     }
