@@ -38,6 +38,11 @@ counts-fit [] cs = true
 counts-fit (n ∷ ns) [] = false
 counts-fit (n ∷ ns) (c ∷ cs) = leb n c && counts-fit ns cs
 
+-- whether all entries pass a test
+unfoldable pub every : (Entry → Bool) → List Entry → Bool
+every p [] = true
+every p (e ∷ es) = p e && every p es
+
 -- the entries that a test picks, in their order
 unfoldable pub select : (Entry → Bool) → List Entry → List Entry
 select p [] = []
@@ -95,25 +100,22 @@ tableFits counts t =
     ltb (wordOf TABLE-PROVIDER t) (of PROVIDERS counts) && (leb 1 (wordOf TABLE-KIND t) && (leb (wordOf TABLE-KIND t) 8
     && leb (wordOf TABLE-FIRST t + wordOf TABLE-COUNT t) (of (kindList (wordOf TABLE-KIND t)) counts)))
 
-unfoldable pub tablesFit : List ℕ → List Entry → Bool
-tablesFit counts [] = true
-tablesFit counts (t ∷ ts) = tableFits counts t && tablesFit counts ts
+abbrev pub tablesFit : List ℕ → List Entry → Bool
+tablesFit counts ts = every (λ t. tableFits counts t) ts
 
 -- the entries of a table's range, in their list
 abbrev pub rangeOf : List Entry → Entry → List Entry
 rangeOf es t = take (wordOf TABLE-COUNT t) (drop (wordOf TABLE-FIRST t) es)
 
 -- "10 is also given by the key lookup if a kind 8 table's range holds a template of another provider." (request 06)
-unfoldable pub all-of : ℕ → List Entry → Bool
-all-of provider [] = true
-all-of provider (t ∷ ts) = eqb (wordOf TEMPLATE-PROVIDER t) provider && all-of provider ts
+abbrev pub all-of : ℕ → List Entry → Bool
+all-of provider ts = every (λ t. eqb (wordOf TEMPLATE-PROVIDER t) provider) ts
 
 abbrev pub tableOwns : List Entry → Entry → Bool
 tableOwns templates t = not (eqb (wordOf TABLE-KIND t) TTBL) || all-of (wordOf TABLE-PROVIDER t) (rangeOf templates t)
 
-unfoldable pub tablesOwn : List Entry → List Entry → Bool
-tablesOwn templates [] = true
-tablesOwn templates (t ∷ ts) = tableOwns templates t && tablesOwn templates ts
+abbrev pub tablesOwn : List Entry → List Entry → Bool
+tablesOwn templates ts = every (λ t. tableOwns templates t) ts
 
 -- "A provider's first table entry of a kind is used.": the entries of its range
 abbrev pub ownedBy : List Entry → ℕ → ℕ → List Entry → List Entry

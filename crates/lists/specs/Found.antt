@@ -13,7 +13,7 @@ use Rattle.format.specs.Entry.{TABLE-PROVIDER, TABLE-KIND, TABLE-FIRST, TABLE-C
 use Rattle.format.specs.Table.{TTBL, kindList}
 use Rattle.format.specs.Lists.{Entry}
 use Rattle.format.specs.Answer.{own, areas, lent-enough}
-use Rattle.format.specs.Lookup.{entriesFrom, entriesOf, wordOf, alike, select, position, counts-fit, tablesFit, tablesOwn}
+use Rattle.format.specs.Lookup.{entriesFrom, entriesOf, wordOf, alike, select, position, counts-fit, tableFits, tablesFit, tableOwns, tablesOwn}
 use Rattle.lists.specs.declared.Found.{Found}
 use Rattle.lists.specs.declared.Found.the-variants as founds
 use Rattle.lists.specs.declared.Run.{Run}
@@ -46,7 +46,10 @@ found (n ∷ ns) = founds.Number n
 abbrev pub lowest : List ℕ → Run → ℕ → List ℕ
 lowest words templates offset = position (λ t. eqb (wordOf TEMPLATE-OFFSET t) offset) (templates .first) (entries (width TEMPLATES) templates words)
 
--- whether each of some tables names what is there and, if it is a TTBL, has its own provider's templates
+-- whether a table names what is there and, if it is a TTBL, has its own provider's templates; and whether each of some does
+abbrev pub tableHolds : List ℕ → List Entry → Entry → Bool
+tableHolds counts templates t = tableFits counts t && tableOwns templates t
+
 abbrev pub tablesHold : List ℕ → List Entry → List Entry → Bool
 tablesHold counts templates ts = tablesFit counts ts && tablesOwn templates ts
 

@@ -12,7 +12,7 @@ use borrow.Author.Tests.{eq-eqb, ne-eqb}
 use lib.Seq.{drop-cons}
 use Rattle.blob.specs.Reading.{choose}
 use Rattle.format.specs.Lists.{Entry}
-use Rattle.format.specs.Lookup.{entriesFrom, wordOf, alike, select, position, positions}
+use Rattle.format.specs.Lookup.{entriesFrom, wordOf, alike, every, select, position, positions}
 use Rattle.lists.specs.declared.Found.{Found}
 use Rattle.lists.specs.declared.Found.the-variants as founds
 use Rattle.lists.specs.declared.Run.{Run}
@@ -62,6 +62,34 @@ module _ (words key : List ℕ) (width from : ℕ) (k : from + length key ≤ wi
 pub position-none : (p : Entry → Bool) (words : List ℕ) (width left at n : ℕ) → left ≤ 0 → position p n (entriesFrom width left at words) ≡ []
 unfolding position entriesFrom
 position-none p words width left at n h = let c : left ≡ 0 = omega arith in rw c
+
+-- Of entries that are tested, those that are left decide: where the next one passes, where it does not, and where none is left.
+module _ (p : Entry → Bool) (words : List ℕ) (width left at : ℕ) where
+  every-more : 0 < left → every p (entriesFrom width left at words) ≡ (p (take width (drop at words)) && every p (entriesFrom width (left - 1) (at + width) words))
+  unfolding every entriesFrom
+  every-more h = let m : left ≡ suc (left - 1) = omega arith in ap (λ (l : ℕ). every p (entriesFrom width l at words)) m
+
+  pub every-here : 0 < left → p (take width (drop at words)) ≡ true → every p (entriesFrom width left at words) ≡ every p (entriesFrom width (left - 1) (at + width) words)
+  every-here h e = every-more h ∙ rw e
+
+  pub every-not : 0 < left → p (take width (drop at words)) ≡ false → every p (entriesFrom width left at words) ≡ false
+  every-not h e = every-more h ∙ rw e
+
+  pub every-none : left ≤ 0 → every p (entriesFrom width left at words) ≡ true
+  unfolding every entriesFrom
+  every-none h = let m : left ≡ 0 = omega arith in rw m
+
+-- two tests at once
+and-swap : (a b c d : Bool) → ((a && b) && (c && d)) ≡ ((a && c) && (b && d))
+and-swap true b true d = refl
+and-swap true true false d = refl
+and-swap true false false d = refl
+and-swap false b c d = refl
+
+pub every-both : (p q : Entry → Bool) (es : List Entry) → every (λ e. p e && q e) es ≡ (every p es && every q es)
+unfolding every
+every-both p q [] = refl
+every-both p q (e ∷ es) = ap (λ t. (p e && q e) && t) (every-both p q es) ∙ and-swap (p e) (q e) (every p es) (every q es)
 
 -- Tests that agree on entries of a width find the same among such entries.
 pub position-same : (p q : Entry → Bool) (words : List ℕ) (width n at k : ℕ) → at + width * n ≤ length words → ((e : Entry) → length e ≡ width → p e ≡ q e)

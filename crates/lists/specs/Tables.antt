@@ -1,86 +1,27 @@
 -- The tables of a provider, and what they have in the lists.
-use Prim.Native.Nat.{ℕ, suc, _+_, _*_, _-_, _≤_, _<_}
+use Prim.Native.Nat.{ℕ, _+_, _*_, _-_, _≤_, _<_}
 use mathlib.Core.Path.{_≡_, refl, ap, sym, _∙_}
 use mathlib.Core.Bool.{Bool, true, false, _&&_}
 use mathlib.Core.List.{List, [], _∷_, append-nil}
 use native.Mathlib.Omega.{arith}
-use lib.ListN.{length, getD, take, drop}
+use lib.ListN.{getD, take, drop}
 use lib.Dec.{eqb, leb, ltb}
-use borrow.Author.Tests.{eqb-true, eq-eqb, ne-eqb, leb-true}
+use borrow.Author.Tests.{eqb-true, leb-true}
 use Rattle.blob.specs.Reading.{choose}
 use Rattle.blob.specs.Laws.{both}
 use Rattle.blob.specs.Laid.{flat}
 use Rattle.format.specs.Area.{PROVIDERS, TABLES, TEMPLATES, rows, place, width, of}
-use Rattle.format.specs.Entry.{TABLE-PROVIDER, TABLE-KIND, TABLE-FIRST, TABLE-COUNT, TEMPLATE-PROVIDER}
+use Rattle.format.specs.Entry.{TABLE-PROVIDER, TABLE-KIND, TABLE-FIRST, TABLE-COUNT}
 use Rattle.format.specs.Table.{kindList}
 use Rattle.format.specs.Answer.{areas}
 use Rattle.format.specs.Lists.{Entry}
-use Rattle.format.specs.Lookup.{entriesFrom, entriesOf, wordOf, select, position, tableFits, tablesFit, rangeOf, all-of, tableOwns, tablesOwn}
+use Rattle.format.specs.Lookup.{entriesFrom, entriesOf, wordOf, select, position, every, tableFits, tablesFit, rangeOf}
 use Rattle.lists.specs.declared.Found.the-variants as founds
 use Rattle.lists.specs.declared.Run.{Run}
-use Rattle.lists.specs.Entries.{part-entries, entry, entries-length, word-at}
-use Rattle.lists.specs.Found.{entries, few, runOf, has, found, tablesHold, Fit, tableOf, rangeIn}
+use Rattle.lists.specs.Entries.{part-entries, entry, entries-length}
+use Rattle.lists.specs.Found.{entries, few, runOf, has, found, Fit, tableOf, rangeIn}
 use Rattle.lists.specs.Fit.{inside, whole-entries}
 use Rattle.lists.specs.Search.{position-same, has-two, position-found, select-found, select-none}
-
-and-swap : (a b c d : Bool) → ((a && b) && (c && d)) ≡ ((a && c) && (b && d))
-and-swap true b true d = refl
-and-swap true true false d = refl
-and-swap true false false d = refl
-and-swap false b c d = refl
-
--- Of tables that are checked, those that are left decide: where the next one fits and owns its templates, where one of the two is not so,
--- and where none is left.
-module _ (words counts : List ℕ) (templates : List Entry) (left at : ℕ) where
-  abbrev next : Entry
-  next = take (width TABLES) (drop at words)
-
-  abbrev others : List Entry
-  others = entriesFrom (width TABLES) (left - 1) (at + width TABLES) words
-
-  tables-more : 0 < left
-      → tablesHold counts templates (entriesFrom (width TABLES) left at words) ≡ ((tableFits counts next && tableOwns templates next) && tablesHold counts templates others)
-  unfolding tablesFit tablesOwn entriesFrom
-  tables-more h =
-      let m : left ≡ suc (left - 1) = omega arith in
-      ap (λ (l : ℕ). tablesHold counts templates (entriesFrom (width TABLES) l at words)) m
-      ∙ and-swap (tableFits counts next) (tablesFit counts others) (tableOwns templates next) (tablesOwn templates others)
-
-  pub tables-fine : 0 < left → tableFits counts next ≡ true → tableOwns templates next ≡ true
-      → tablesHold counts templates (entriesFrom (width TABLES) left at words) ≡ tablesHold counts templates others
-  tables-fine h e g = tables-more h ∙ rw (e, g)
-
-  pub tables-unfit : 0 < left → tableFits counts next ≡ false → tablesHold counts templates (entriesFrom (width TABLES) left at words) ≡ false
-  tables-unfit h e = tables-more h ∙ rw e
-
-  pub tables-foreign : 0 < left → tableFits counts next ≡ true → tableOwns templates next ≡ false → tablesHold counts templates (entriesFrom (width TABLES) left at words) ≡ false
-  tables-foreign h e g = tables-more h ∙ rw (e, g)
-
-  pub tables-none : left ≤ 0 → tablesHold counts templates (entriesFrom (width TABLES) left at words) ≡ true
-  unfolding tablesFit tablesOwn entriesFrom
-  tables-none h = let m : left ≡ 0 = omega arith in rw m
-
--- Of templates that are checked, the same.
-module _ (words : List ℕ) (provider left at : ℕ) where
-  all-more : 0 < left → at + width TEMPLATES * left ≤ length words
-      → all-of provider (entriesFrom (width TEMPLATES) left at words)
-      ≡ (eqb (getD words (at + TEMPLATE-PROVIDER) 0) provider && all-of provider (entriesFrom (width TEMPLATES) (left - 1) (at + width TEMPLATES) words))
-  unfolding all-of entriesFrom
-  all-more h g =
-      let m : left ≡ suc (left - 1) = omega arith in
-      ap (λ (l : ℕ). all-of provider (entriesFrom (width TEMPLATES) l at words)) m ∙ rw (word-at (width TEMPLATES) words TEMPLATE-PROVIDER at (omega arith))
-
-  pub all-here : 0 < left → at + width TEMPLATES * left ≤ length words → getD words (at + TEMPLATE-PROVIDER) 0 ≡ provider
-      → all-of provider (entriesFrom (width TEMPLATES) left at words) ≡ all-of provider (entriesFrom (width TEMPLATES) (left - 1) (at + width TEMPLATES) words)
-  all-here h g e = all-more h g ∙ rw (eq-eqb _ _ e)
-
-  pub all-other : 0 < left → at + width TEMPLATES * left ≤ length words → (getD words (at + TEMPLATE-PROVIDER) 0 ≡ provider → ⊥)
-      → all-of provider (entriesFrom (width TEMPLATES) left at words) ≡ false
-  all-other h g e = all-more h g ∙ rw (ne-eqb _ _ e)
-
-  pub all-none : left ≤ 0 → all-of provider (entriesFrom (width TEMPLATES) left at words) ≡ true
-  unfolding all-of entriesFrom
-  all-none h = let m : left ≡ 0 = omega arith in rw m
 
 -- a TTBL's range of all templates, as a run
 module _ (words : List ℕ) (templates : Run) (z : templates .first ≡ 0) (t : Entry) (h : wordOf TABLE-FIRST t + wordOf TABLE-COUNT t ≤ templates .count) where
@@ -157,7 +98,7 @@ module _ (words capacities counts : List ℕ) (l kind : ℕ) (k : kindList kind 
       rw (← k, ← g) h
 
   pub owned-entries : (provider : ℕ) (tables : List Entry) → tablesFit counts tables ≡ true → Owned (tableOf provider kind tables)
-  unfolding select tablesFit
+  unfolding select every
   owned-entries provider [] fit = none-owned
   owned-entries provider (t ∷ ts) fit =
       let h = both (tableFits counts t) _ fit in

@@ -19,7 +19,7 @@ use Rattle.format.specs.Provider.{Rows, definitions, events, maps, templ
 use Rattle.format.specs.Area.{PROVIDERS, TABLES, EVENTS, MAPS, TEMPLATES, GUIDS, rows, none, more}
 use Rattle.format.specs.Lists.{Entry, Owned, lastOf, kept, mapList, definitionWords, mapWords, itemWords, itemList, tableEntries}
 use Rattle.format.specs.Answer.{areas, filled, moderate, own, too-small, with-room}
-use Rattle.format.specs.Lookup.{all-of, alike, among, byKey, byOffset, counts-fit, entriesFrom, guidsHeld, guidsOf, once, position, positions, select, tableFits, tablesFit, tablesOwn, wordOf}
+use Rattle.format.specs.Lookup.{alike, among, byKey, byOffset, counts-fit, entriesFrom, every, guidsHeld, guidsOf, once, position, positions, select, tableFits, wordOf}
 use Rattle.format.specs.Handle.{shown}
 use Rattle.format.specs.declared.Name.{Name}
 use Rattle.format.specs.declared.Event.{Event}
@@ -207,27 +207,27 @@ too-few-words = refl
 
 -- by key: the GUID of the lowest template, once; nothing for another key; 9 where it does not fit; 10 for a kind that is none; 10 before 9 for a count over its capacity
 given-once : lookup 8 1 (replicate 5 0) ≡ done ((8 ∷ 8 ∷ 8 ∷ 8 ∷ []) ∷ [])
-unfolding byKey guidsOf moderate areas counts-fit entriesFrom positions tablesFit tablesOwn all-of select alike among once flat
+unfolding byKey guidsOf moderate areas counts-fit entriesFrom positions every select alike among once flat
 given-once = refl
 
 written-once : guidsHeld (replicate 5 0) (lookup 8 1 (replicate 5 0)) ≡ 8 ∷ 8 ∷ 8 ∷ 8 ∷ 0 ∷ []
-unfolding byKey guidsOf moderate areas counts-fit entriesFrom positions tablesFit tablesOwn all-of select alike among once flat laid
+unfolding byKey guidsOf moderate areas counts-fit entriesFrom positions every select alike among once flat laid
 written-once = refl
 
 another-key : lookup 8 2 [] ≡ done []
-unfolding byKey guidsOf moderate areas counts-fit entriesFrom positions tablesFit tablesOwn all-of select alike among once flat
+unfolding byKey guidsOf moderate areas counts-fit entriesFrom positions every select alike among once flat
 another-key = refl
 
 no-room : lookup 8 1 (replicate 3 0) ≡ refused (too-small GUIDS 0)
-unfolding byKey guidsOf moderate areas counts-fit entriesFrom positions tablesFit tablesOwn all-of select alike among once flat
+unfolding byKey guidsOf moderate areas counts-fit entriesFrom positions every select alike among once flat
 no-room = refl
 
 no-kind : lookup 9 1 [] ≡ refused (own 10)
-unfolding byKey guidsOf moderate areas counts-fit entriesFrom positions tablesFit tablesOwn all-of select alike among once flat
+unfolding byKey guidsOf moderate areas counts-fit entriesFrom positions every select alike among once flat
 no-kind = refl
 
 ten-before-nine : byKey (words 8 0) some one-map (key 1) [] ≡ refused (own 10)
-unfolding byKey guidsOf moderate areas counts-fit entriesFrom positions tablesFit tablesOwn all-of select alike among once flat
+unfolding byKey guidsOf moderate areas counts-fit entriesFrom positions every select alike among once flat
 ten-before-nine = refl
 
 -- Two providers of one GUID, with a third between them, and four events with one key: of the first provider at 50 and 90, of the last at
@@ -249,16 +249,16 @@ of-two n first =
 
 -- in the order of the providers, each event in its own provider's templates, a GUID once over both; 9 counts that total
 both-providers : byKey (of-two 2 2) three three (key 1) (replicate 8 0) ≡ done ((5 ∷ 5 ∷ 5 ∷ 5 ∷ []) ∷ (8 ∷ 8 ∷ 8 ∷ 8 ∷ []) ∷ [])
-unfolding byKey guidsOf moderate areas counts-fit entriesFrom positions tablesFit tablesOwn all-of select alike among once flat
+unfolding byKey guidsOf moderate areas counts-fit entriesFrom positions every select alike among once flat
 both-providers = refl
 
 no-room-for-both : byKey (of-two 2 2) three three (key 1) (replicate 7 0) ≡ refused (too-small GUIDS 1)
-unfolding byKey guidsOf moderate areas counts-fit entriesFrom positions tablesFit tablesOwn all-of select alike among once flat
+unfolding byKey guidsOf moderate areas counts-fit entriesFrom positions every select alike among once flat
 no-room-for-both = refl
 
 -- events that damaged lists give to both are gone through for each
 events-of-both : byKey (of-two 4 0) three three (key 1) (replicate 12 0) ≡ done ((5 ∷ 5 ∷ 5 ∷ 5 ∷ []) ∷ (9 ∷ 9 ∷ 9 ∷ 9 ∷ []) ∷ (8 ∷ 8 ∷ 8 ∷ 8 ∷ []) ∷ [])
-unfolding byKey guidsOf moderate areas counts-fit entriesFrom positions tablesFit tablesOwn all-of select alike among once flat
+unfolding byKey guidsOf moderate areas counts-fit entriesFrom positions every select alike among once flat
 events-of-both = refl
 
 -- 10 for a TTBL whose range has another provider's template: the one that is used, and one that is not, but not for a template in no
@@ -276,15 +276,15 @@ second first n =
     ++ temp 0 76 5 ++ temp 0 76 8 ++ temp 1 76 9
 
 anothers-used : byKey (words 8 1) some some (key 1) [] ≡ refused (own 10)
-unfolding byKey guidsOf moderate areas counts-fit entriesFrom positions tablesFit tablesOwn all-of select alike among once flat
+unfolding byKey guidsOf moderate areas counts-fit entriesFrom positions every select alike among once flat
 anothers-used = refl
 
 anothers-not-used : byKey (second 1 2) two-ttbls two-ttbls (key 1) [] ≡ refused (own 10)
-unfolding byKey guidsOf moderate areas counts-fit entriesFrom positions tablesFit tablesOwn all-of select alike among once flat
+unfolding byKey guidsOf moderate areas counts-fit entriesFrom positions every select alike among once flat
 anothers-not-used = refl
 
 anothers-in-no-range : byKey (second 1 1) two-ttbls two-ttbls (key 1) (replicate 4 0) ≡ done ((5 ∷ 5 ∷ 5 ∷ 5 ∷ []) ∷ [])
-unfolding byKey guidsOf moderate areas counts-fit entriesFrom positions tablesFit tablesOwn all-of select alike among once flat
+unfolding byKey guidsOf moderate areas counts-fit entriesFrom positions every select alike among once flat
 anothers-in-no-range = refl
 
 -- a table entry with an empty range, of a kind and of none

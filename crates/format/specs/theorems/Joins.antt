@@ -21,7 +21,7 @@ use Rattle.format.specs.Provider.{Rows, definitions, events, maps, templ
 use Rattle.format.specs.Crim.{Crim, crim}
 use Rattle.format.specs.Lists.{Entry, kept, Owned, ownedTables, listOf, rowCount, after, tableEntries, guidWords, providerWords, eventWords, templateWords, templatesIn, lists}
 use Rattle.format.specs.Answer.{own, too-small, lent-enough, with-room, reading, counted, answer, held, Allowed}
-use Rattle.format.specs.Lookup.{entriesOf, wordOf, counts-fit, select, position, positions, numbered, matches, byOffset, alike, once, tablesFit, tablesOwn, ownedBy, keyed, guidAtOffset, guidsOf, byKey}
+use Rattle.format.specs.Lookup.{entriesOf, wordOf, counts-fit, select, position, positions, numbered, matches, byOffset, alike, once, every, tablesFit, tablesOwn, ownedBy, keyed, guidAtOffset, guidsOf, byKey}
 use Rattle.format.specs.Join.{those, the-first, eventsOf, templatesOf, asked, guidsFrom, join}
 use Rattle.format.specs.steps.Needs.{of-tables}
 use Rattle.format.specs.steps.Parts.{behindAll}
@@ -62,7 +62,7 @@ list-row (templates ts) = omega arith
 tables-fit : (counts before : List ℕ) (os : List Owned) → length before ≡ length rows
     → ((i : ℕ) → i < length rows → getD (behindAll TABLES before (map (λ o. o .table) os)) i 0 ≤ getD counts i 0)
     → All (Sound (of PROVIDERS counts)) os → tablesFit counts (tableEntries before os) ≡ true
-unfolding tablesFit tableEntries behindAll
+unfolding every tableEntries behindAll
 tables-fit counts before [] n h k = refl
 tables-fit counts before (o ∷ os) n h k =
     let r = o .table .rows in

@@ -19,7 +19,7 @@ use Rattle.format.specs.Template.{Template}
 use Rattle.format.specs.Provider.{Rows, definitions, events, maps, templates, Table, Element, table, unknown, Provider}
 use Rattle.format.specs.Lists.{Entry, or-else, lastOf, kept, Owned, ownedTables, listOf, rowCount, after, tableWords, tableEntries, eventWords, templateWords, eventsIn, templatesIn}
 use Rattle.format.specs.Entry.{TABLE-PROVIDER, TABLE-KIND}
-use Rattle.format.specs.Lookup.{wordOf, select, rangeOf, all-of, tablesOwn, ownedBy}
+use Rattle.format.specs.Lookup.{wordOf, every, select, rangeOf, all-of, tablesOwn, ownedBy}
 use Rattle.format.specs.Join.{those, the-first, eventsOf, templatesOf}
 use Rattle.format.specs.theorems.Listed.{owned}
 use Rattle.format.specs.theorems.Known.{All, Known, Sound, owned-known}
@@ -223,13 +223,13 @@ module _ (qs : List Provider) (p : Provider) (rs : List Provider) (a : All (λ p
 
 -- each TTBL has templates of its own provider alone
 all-own : (n : ℕ) (ts : List Template) → all-of n (map (templateWords n) ts) ≡ true
-unfolding all-of
+unfolding every
 all-own n [] = refl
 all-own n (t ∷ ts) = rw (eq-eqb n n refl) (all-own n ts)
 
 pub tables-own : (m : ℕ) (before : List ℕ) (pre : List Entry) (os : List Owned) → length before ≡ length rows → length pre ≡ of TEMPLATES before → All (Sound m) os
     → tablesOwn (pre ++ flat (λ o. templateItems (o .provider) (o .table .rows)) os) (tableEntries before os) ≡ true
-unfolding flat tablesOwn tableEntries
+unfolding flat every tableEntries
 tables-own m before pre [] h g a = refl
 tables-own m before pre (o ∷ os) h g a =
     rw (owns (eqb (o .table .kind) TTBL) refl, ← append-assoc pre mine others)

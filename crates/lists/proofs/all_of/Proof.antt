@@ -1,15 +1,23 @@
 -- The invariant: what is left decides.
-use Prim.Native.Nat.{_+_, _*_, _≤_}
+use Prim.Native.Nat.{ℕ, _+_, _*_, _≤_}
+use mathlib.Core.Bool.{Bool}
+use lib.Dec.{eqb}
+use borrow.Author.Tests.{eq-eqb, ne-eqb}
 use mathlib.Core.Path.{_≡_, refl, ap, sym, _∙_}
 use lib.ListN.{length}
 use Rattle.format.specs.Area.{TEMPLATES, width}
-use Rattle.format.specs.Lookup.{entriesFrom, all-of}
-use Rattle.lists.specs.Entries.{end}
-use Rattle.lists.specs.Tables.{all-here, all-other, all-none}
+use Rattle.format.specs.Entry.{TEMPLATE-PROVIDER}
+use Rattle.format.specs.Lists.{Entry}
+use Rattle.format.specs.Lookup.{entriesFrom, wordOf, all-of}
+use Rattle.lists.specs.Entries.{end, word-at}
+use Rattle.lists.specs.Search.{every-here, every-not, every-none}
 use borrow.Author.Needs.{needs}
 use native.Mathlib.Omega.{arith}
 use Rattle.lists.proofs.all_of.Statement.{statement}
 use Rattle.lists.proofs.all_of.Tie as tie
+
+abbrev owner : ℕ → Entry → Bool
+owner provider t = eqb (wordOf TEMPLATE-PROVIDER t) provider
 
 abbrev Inv-loop : tie.InvT-loop
 Inv-loop words provider at₀ left₀ at left =
@@ -31,13 +39,13 @@ returns c =
     sym
     (ap (λ at. all-of (a .provider) (entriesFrom (width TEMPLATES) (a .templates .count) at (a .words .now))) (sym (l .before .entry-at .ensures))
     ∙ l .loop .inv .1
-    ∙ all-other (a .words .now) (a .provider) _ _ (c .before .before .loop-test .taken) (l .loop .inv .0) (c .if1 .taken))
+    ∙ every-not (owner (a .provider)) (a .words .now) (width TEMPLATES) _ _ (c .before .before .loop-test .taken) (rw (word-at (width TEMPLATES) (a .words .now) TEMPLATE-PROVIDER (l .loop .at) (omega arith)) (ne-eqb _ _ (c .if1 .taken))))
 
 loop-again : tie.Need-loop-again Inv-loop μ-loop
 loop-again c =
     let l = c .before .before .before in
     let a = l .before .before .before .args in
-    (omega arith, l .loop .inv .1 ∙ all-here (a .words .now) (a .provider) _ _ (c .before .before .loop-test .taken) (l .loop .inv .0) (c .if1 .left))
+    (omega arith, l .loop .inv .1 ∙ every-here (owner (a .provider)) (a .words .now) (width TEMPLATES) _ _ (c .before .before .loop-test .taken) (rw (word-at (width TEMPLATES) (a .words .now) TEMPLATE-PROVIDER (l .loop .at) (omega arith)) (eq-eqb _ _ (c .if1 .left))))
 
 returns-2 : tie.Need-returns-2 Inv-loop μ-loop
 returns-2 c =
@@ -46,7 +54,7 @@ returns-2 c =
     sym
     (ap (λ at. all-of (a .provider) (entriesFrom (width TEMPLATES) (a .templates .count) at (a .words .now))) (sym (l .before .entry-at .ensures))
     ∙ l .loop .inv .1
-    ∙ all-none (a .words .now) (a .provider) _ _ (c .loop-test .left))
+    ∙ every-none (owner (a .provider)) (a .words .now) (width TEMPLATES) _ _ (c .loop-test .left))
 
 pub all-of-spec : {M : Type 1} → statement M
 all-of-spec =

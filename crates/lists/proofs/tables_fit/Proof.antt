@@ -7,10 +7,11 @@ use lib.ListN.{length, getD, take, drop}
 use Rattle.format.specs.Area.{TABLES, TEMPLATES, place, width}
 use Rattle.format.specs.Table.{TTBL}
 use Rattle.format.specs.Lists.{Entry}
-use Rattle.format.specs.Lookup.{entriesFrom, entriesOf}
-use Rattle.lists.specs.Found.{entries, few, rangeWithin, tablesHold}
+use Rattle.format.specs.Lookup.{entriesFrom, entriesOf, every, tableFits, tableOwns}
+use Rattle.lists.specs.Found.{entries, few, rangeWithin, tableHolds, tablesHold}
 use Rattle.lists.specs.Fit.{inside, whole-few, whole-entries}
-use Rattle.lists.specs.Tables.{tables-fine, tables-unfit, tables-foreign, tables-none, fits-range}
+use Rattle.lists.specs.Search.{every-here, every-not, every-none, every-both}
+use Rattle.lists.specs.Tables.{fits-range}
 use borrow.Author.Needs.{needs}
 use native.Mathlib.Omega.{arith}
 use Rattle.lists.proofs.tables_fit.Statement.{statement}
@@ -19,8 +20,8 @@ use Rattle.lists.proofs.tables_fit.Tie as tie
 abbrev Inv-loop : tie.InvT-loop
 Inv-loop words counts templates at₀ left₀ at left =
     (at + width TABLES * left ≤ length words)
-    × (tablesHold counts (entries (width TEMPLATES) templates words) (entriesFrom (width TABLES) left₀ at₀ words)
-    ≡ tablesHold counts (entries (width TEMPLATES) templates words) (entriesFrom (width TABLES) left at words))
+    × (every (λ t. tableHolds counts (entries (width TEMPLATES) templates words) t) (entriesFrom (width TABLES) left₀ at₀ words)
+    ≡ every (λ t. tableHolds counts (entries (width TEMPLATES) templates words) t) (entriesFrom (width TABLES) left at words))
 
 abbrev μ-loop : tie.MeasureT-loop
 μ-loop words counts templates at₀ left₀ at left = left
@@ -28,10 +29,12 @@ abbrev μ-loop : tie.MeasureT-loop
 -- all that are checked are those of the lists
 whole : (c : tie.After-area-at Inv-loop μ-loop) → (let a = c .before .before .before .args in
     tablesHold (a .t3) (entriesOf (a .words .now) (a .capacities) (a .t3) TEMPLATES) (entriesOf (a .words .now) (a .capacities) (a .t3) TABLES)
-    ≡ tablesHold (a .t3) (entries (width TEMPLATES) (c .before .run-of .result) (a .words .now)) (entriesFrom (width TABLES) (getD (a .t3) (place TABLES) 0) (c .area-at .result) (a .words .now)))
+    ≡ every (λ t. tableHolds (a .t3) (entries (width TEMPLATES) (c .before .run-of .result) (a .words .now)) t) (entriesFrom (width TABLES) (getD (a .t3) (place TABLES) 0) (c .area-at .result) (a .words .now)))
 whole c =
     let a = c .before .before .before .args in
-    ap₂ (λ (ts : List Entry) at. tablesHold (a .t3) ts (entriesFrom (width TABLES) (getD (a .t3) (place TABLES) 0) at (a .words .now)))
+    let ts = entriesOf (a .words .now) (a .capacities) (a .t3) TEMPLATES in
+    sym (every-both (λ t. tableFits (a .t3) t) (λ t. tableOwns ts t) (entriesOf (a .words .now) (a .capacities) (a .t3) TABLES))
+    ∙ ap₂ (λ (ts : List Entry) at. every (λ t. tableHolds (a .t3) ts t) (entriesFrom (width TABLES) (getD (a .t3) (place TABLES) 0) at (a .words .now)))
     (sym (whole-entries (a .words .now) (a .capacities) (a .t3) (place TEMPLATES)) ∙ ap (λ r. entries (width TEMPLATES) r (a .words .now)) (sym (c .before .run-of .ensures)))
     (sym (c .area-at .ensures .0))
 
@@ -44,7 +47,7 @@ returns : tie.Need-returns Inv-loop μ-loop
 returns c =
     let l = c .before .before .before in
     let a = l .before .before .before .before .args in
-    sym (whole (l .before) ∙ l .loop .inv .1 ∙ tables-unfit (a .words .now) (a .t3) _ _ _ (c .before .before .loop-test .taken) (sym (c .before .table-fits .ensures) ∙ not-true _ (c .if1 .taken)))
+    sym (whole (l .before) ∙ l .loop .inv .1 ∙ every-not _ (a .words .now) (width TABLES) _ _ (c .before .before .loop-test .taken) (rw (sym (c .before .table-fits .ensures) ∙ not-true _ (c .if1 .taken))))
 
 table-owns-requires : tie.Need-table-owns-requires Inv-loop μ-loop
 table-owns-requires c κs =
@@ -63,20 +66,20 @@ returns-2 c =
     let f = c .before .before in
     let l = f .before .before .before in
     let a = l .before .before .before .before .args in
-    sym (whole (l .before) ∙ l .loop .inv .1 ∙ tables-foreign (a .words .now) (a .t3) _ _ _ (f .before .before .loop-test .taken) (sym (f .before .table-fits .ensures) ∙ not-false _ (f .if1 .left)) (sym (c .before .table-owns .ensures) ∙ not-true _ (c .if2 .taken)))
+    sym (whole (l .before) ∙ l .loop .inv .1 ∙ every-not _ (a .words .now) (width TABLES) _ _ (f .before .before .loop-test .taken) (rw (sym (f .before .table-fits .ensures) ∙ not-false _ (f .if1 .left), sym (c .before .table-owns .ensures) ∙ not-true _ (c .if2 .taken))))
 
 loop-again : tie.Need-loop-again Inv-loop μ-loop
 loop-again c =
     let f = c .before .before in
     let l = f .before .before .before in
     let a = l .before .before .before .before .args in
-    (omega arith, l .loop .inv .1 ∙ tables-fine (a .words .now) (a .t3) _ _ _ (f .before .before .loop-test .taken) (sym (f .before .table-fits .ensures) ∙ not-false _ (f .if1 .left)) (sym (c .before .table-owns .ensures) ∙ not-false _ (c .if2 .left)))
+    (omega arith, l .loop .inv .1 ∙ every-here _ (a .words .now) (width TABLES) _ _ (f .before .before .loop-test .taken) (rw (sym (f .before .table-fits .ensures) ∙ not-false _ (f .if1 .left), sym (c .before .table-owns .ensures) ∙ not-false _ (c .if2 .left))))
 
 returns-3 : tie.Need-returns-3 Inv-loop μ-loop
 returns-3 c =
     let l = c .before in
     let a = l .before .before .before .before .args in
-    sym (whole (l .before) ∙ l .loop .inv .1 ∙ tables-none (a .words .now) (a .t3) _ _ _ (c .loop-test .left))
+    sym (whole (l .before) ∙ l .loop .inv .1 ∙ every-none _ (a .words .now) (width TABLES) _ _ (c .loop-test .left))
 
 pub tables-fit-spec : {M : Type 1} → statement M
 tables-fit-spec =
