@@ -457,7 +457,8 @@ uint32_t ducat_read(const uint8_t *blob, size_t blob_len,
  * whose offset are these. To find an event's template, give its provider's number, first entry and count of that provider's TTBL,
  * and the event's template offset.
  *
- * The provider's number is compared with that of each entry, and no more: one that is no provider's is no fault. A range past the list's count is code 10, also where count is 0. answer_len is DUCAT_TEMPLATE_NUMBERS. */
+ * The provider's number is compared with that of each entry, and no more: one that is no provider's is no fault. A range past the
+ * list's count is code 10, also where count is 0. answer_len is DUCAT_TEMPLATE_NUMBERS. */
 uint32_t ducat_template_at(const uint32_t *words, size_t words_len,
                            const uint32_t *capacities, size_t capacities_len,
                            const uint32_t *counts, size_t counts_len,
@@ -473,8 +474,9 @@ uint32_t ducat_template_at(const uint32_t *words, size_t words_len,
  *                   DUCAT_MOST it is code 8. There are at most as many GUIDs as DUCAT_LIST_TEMPLATES has entries.
  *
  * An entry of DUCAT_LIST_TABLES whose provider is not there, whose kind isn't 1 to 8, or whose range is past its list's count is
- * code 10, whether it is used or not, and so is a TTBL's whose range has a template of another provider; then a list that is too short is 9. answer_len is DUCAT_GUIDS_NUMBERS. Of guids nothing is
- * touched but the GUIDs that are given, and nothing on any other code than 0.
+ * code 10, whether it is used or not, and so is a TTBL's whose range has a template of another provider; then a list that is too
+ * short is 9. answer_len is DUCAT_GUIDS_NUMBERS. Of guids nothing is touched but the GUIDs that are given, and nothing on any other
+ * code than 0.
  *
  * It keeps a mark for each template, and uses about 70 KB of stack. */
 uint32_t ducat_templates_for(const uint32_t *words, size_t words_len,

@@ -8,7 +8,8 @@
 static uint64_t answer[DUCAT_TEMPLATE_NUMBERS + 1];
 
 /* Looks a provider's template up, and gives the code. */
-static uint32_t look_of(const struct lists *l, uint32_t provider, uint32_t first, uint32_t count, uint32_t offset, size_t answer_len) {
+static uint32_t look_of(const struct lists *l, uint32_t provider, uint32_t first, uint32_t count, uint32_t offset,
+                        size_t answer_len) {
     memset(answer, 0xff, sizeof answer);
     return ducat_template_at(l->words, l->words_len, l->capacities, l->capacities_len, l->counts, l->counts_len, provider, first,
                              count, offset, answer, answer_len);

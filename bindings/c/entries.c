@@ -176,8 +176,8 @@ static void template_of_u(void) {
     put(u.bytes, 136, 0);
     check(ask_block(&l, &u) == DUCAT_ACCEPTED, "U with a fuller template");
     check(ENTRY(&l, DUCAT_LIST_TEMPLATES, 0, e) && e.provider_number == 0 && e.offset == 76 && e.size == 68 &&
-          e.item_descriptor_count == 1 && e.item_name_count == 3 && e.items_offset == 120 && e.event_type == 4 && rising(&e.guid, 5) && e.binxml_start == 116 &&
-          e.binxml_length == 4, "a template's fields");
+          e.item_descriptor_count == 1 && e.item_name_count == 3 && e.items_offset == 120 && e.event_type == 4 &&
+          rising(&e.guid, 5) && e.binxml_start == 116 && e.binxml_length == 4, "a template's fields");
     take_back(&l);
 }
 

@@ -112,7 +112,8 @@ impl<'a> Manifest<'a> {
     }
 
     /// The number of a provider's lowest template at an offset, among those that these are the
-    /// numbers of; nothing if there is none. A range past the list is refused.
+    /// numbers of; nothing if there is none, nor any of a number that no provider has. A range
+    /// past the list is refused.
     ///
     /// An event's template is its provider's at its template offset, among the entries of its
     /// provider's TTBL.
