@@ -94,7 +94,10 @@ impl Totals {
             (self.shared, "a key with templates of several providers"),
             (self.twice, "a key with a GUID from several providers"),
             (self.later, "a key with templates of a later provider alone"),
-            (self.behind, "a template behind another provider's at its offset"),
+            (
+                self.behind,
+                "a template behind another provider's at its offset",
+            ),
         ];
         let none = sorts.into_iter().filter(|(times, _)| *times == 0);
         none.map(|(_, sort)| sort.to_string()).collect()

@@ -4,20 +4,20 @@ use Prim.Native.Nat.{ℕ}
 use mathlib.Core.Path.{_≡_, refl}
 use mathlib.Core.Bool.{true, false}
 use mathlib.Core.List.{List, [], _∷_, _++_, map}
-use lib.ListN.{length, replicate}
+use lib.ListN.{length, getD, replicate}
 use Rattle.blob.specs.Le.{le}
 use Rattle.blob.specs.Reading.{Outcome, done, refused, demand, run, _>>=_, number}
 use Rattle.blob.specs.Laid.{laid, flat}
-use Rattle.format.specs.Table.{CHAN, LEVL}
-use Rattle.format.specs.Entry.{TABLE-FIRST}
+use Rattle.format.specs.Table.{CHAN, LEVL, TTBL}
+use Rattle.format.specs.Entry.{TABLE-FIRST, TEMPLATE-PROVIDER}
 use Rattle.format.specs.Name.{text, sized, nameAt, absent}
 use Rattle.format.specs.Region.{blob-end, until, inside}
 use Rattle.format.specs.Item.{Item, itemNameAt, itemAt}
 use Rattle.format.specs.Template.{Template}
 use Rattle.format.specs.Map.{BMAP, otherMap, Mapped}
-use Rattle.format.specs.Provider.{Rows, definitions, events, maps, templates, Element, table, unknown}
-use Rattle.format.specs.Area.{PROVIDERS, TABLES, EVENTS, MAPS, TEMPLATES, GUIDS, rows, none, more}
-use Rattle.format.specs.Lists.{Entry, Owned, lastOf, kept, mapList, definitionWords, mapWords, itemWords, itemList, tableEntries}
+use Rattle.format.specs.Provider.{Rows, definitions, events, maps, templates, Element, table, unknown, Provider}
+use Rattle.format.specs.Area.{PROVIDERS, TABLES, EVENTS, MAPS, TEMPLATES, GUIDS, rows, place, none, more}
+use Rattle.format.specs.Lists.{Entry, Owned, lastOf, kept, mapList, definitionWords, mapWords, itemWords, itemList, ownedTables, tableEntries, lists}
 use Rattle.format.specs.Answer.{areas, filled, moderate, own, too-small, with-room}
 use Rattle.format.specs.Lookup.{alike, among, byKey, byOffset, counts-fit, entriesFrom, every, guidsHeld, guidsOf, once, position, positions, select, tableFits, wordOf}
 use Rattle.format.specs.Handle.{shown}
@@ -130,6 +130,21 @@ a-template is =
 item-templates : map (wordOf 0) (itemList 5 (a-template (an-item ∷ an-item ∷ []) ∷ a-template [] ∷ a-template (an-item ∷ []) ∷ [])) ≡ 5 ∷ 5 ∷ 7 ∷ []
 unfolding itemList
 item-templates = refl
+
+-- a template's provider is the one that it was read for, by its number in list 1: of three, of which the first has another table too and
+-- the second has none
+abbrev a-provider : List Element → Provider
+a-provider es =
+    record { guid = record { a = 0; b = 0; c = 0; d = 0 }; offset = 0; size = 0; message = 0; descriptors = []; unknown2 = []; elements = es }
+
+abbrev a-ttbl : List Template → Element
+a-ttbl ts = table (record { kind = TTBL; offset = 0; size = 0; extra = 0; rows = templates ts; start = 0; length = 0 })
+
+template-providers : map (wordOf TEMPLATE-PROVIDER) (getD (lists (
+    a-provider (a-table LEVL 10 ∷ a-ttbl (a-template [] ∷ a-template [] ∷ []) ∷ []) ∷ a-provider [] ∷ a-provider (a-ttbl (a-template [] ∷ []) ∷ []) ∷ [])) (place TEMPLATES) [])
+    ≡ 0 ∷ 0 ∷ 2 ∷ []
+unfolding lists ownedTables lastOf flat
+template-providers = refl
 
 first-map-entries : map (wordOf 7) (mapList 5 (
     a-map 1 (record { identifier = 1; message = 2 } ∷ record { identifier = 3; message = 4 } ∷ []) ∷ a-map 2 [] ∷ a-map 1 [] ∷ []))
