@@ -23,8 +23,8 @@ returns-2 c =
     let p = f.before.before.before.before.before.requires.1.1 in
     (refl, laid-area _ _ _ _ _ (omega arith) (omega (arith, p.0)) (omega (arith, p.1.0.0)) f.fill.ensures)
 
-pub fill-area-spec : {M : Type 1} → statement M
-fill-area-spec =
+pub fill_area_spec : {M : Type 1} → statement M
+fill_area_spec =
     tie.close
     (tie.spec
     (λ c. search rules)

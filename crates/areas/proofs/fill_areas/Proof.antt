@@ -72,8 +72,8 @@ returns c =
     let o = c.before.before.before.before in
     sym (l.invariant.4 ∙ fill_end o.args.t4 l.invariant.2 _ l.i c.loop-test.false _ _)
 
-pub fill-areas-spec : {M : Type 1} → statement M
-fill-areas-spec =
+pub fill_areas_spec : {M : Type 1} → statement M
+fill_areas_spec =
     tie.close
     (tie.spec
     invariant-loop

@@ -7,5 +7,5 @@ use Rattle.blob.proofs.byte.Tie as tie
 returns : tie.Need-returns
 returns c = c.one.ensures ∙ one _ _
 
-pub byte-spec : {M : Type 1} → statement M
-byte-spec = tie.close (tie.spec (λ c. search rules) (λ c κs. search rules) returns)
+pub byte_spec : {M : Type 1} → statement M
+byte_spec = tie.close (tie.spec (λ c. search rules) (λ c κs. search rules) returns)

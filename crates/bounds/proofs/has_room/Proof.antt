@@ -17,5 +17,5 @@ returns-2 c = let a = c.before.before.args in sym (lt-leb (a.at + a.needed) (len
 returns-3 : tie.Need-returns-3
 returns-3 c = let a = c.before.before.args in sym (le-leb (a.at + a.needed) (length a.b.now) (omega arith))
 
-pub has-room-spec : {M : Type 1} → statement M
-has-room-spec = tie.close (tie.spec returns (λ c. search rules) returns-2 returns-3)
+pub has_room_spec : {M : Type 1} → statement M
+has_room_spec = tie.close (tie.spec returns (λ c. search rules) returns-2 returns-3)

@@ -27,5 +27,5 @@ returns-2 : tie.Need-returns-2
 unfolding region_at
 returns-2 c = rw (ne_eqb _ _ c.before.if1.false) (c.bounded.ensures ∙ until_end _ _ _)
 
-pub region-end-spec : {M : Type 1} → statement M
-region-end-spec = tie.close (tie.spec returns (λ c κs. search rules) returns-2)
+pub region_end_spec : {M : Type 1} → statement M
+region_end_spec = tie.close (tie.spec returns (λ c κs. search rules) returns-2)

@@ -6,5 +6,5 @@ use Rattle.bounds.proofs.truncated.Tie as tie
 returns : tie.Need-returns
 returns c = rw c.have.ensures
 
-pub truncated-spec : {M : Type 1} → statement M
-truncated-spec = tie.close (tie.spec (λ c κs. search rules) returns)
+pub truncated_spec : {M : Type 1} → statement M
+truncated_spec = tie.close (tie.spec (λ c κs. search rules) returns)

@@ -13,5 +13,5 @@ returns-2 : tie.Need-returns-2
 unfolding run
 returns-2 c = rw (sym c.before.before.has_room.ensures ∙ c.before.if1.false, c.truncated.ensures)
 
-pub whole-spec : {M : Type 1} → statement M
-whole-spec = tie.close (tie.spec (λ c κs. search rules) returns (λ c κs. search rules) returns-2)
+pub whole_spec : {M : Type 1} → statement M
+whole_spec = tie.close (tie.spec (λ c κs. search rules) returns (λ c κs. search rules) returns-2)

@@ -11,6 +11,6 @@ invariant-loop row c₀ i₀ c i = i ≤ AREAS
 abbrev decreases-loop : tie.decreases-loop
 decreases-loop row c₀ i₀ c i = AREAS - i
 
-pub capacities-spec : {M : Type 1} → statement M
-capacities-spec =
+pub capacities_spec : {M : Type 1} → statement M
+capacities_spec =
     tie.close (tie.spec invariant-loop decreases-loop (λ c. search rules) (λ c. search rules) (λ c. search rules) (λ c κs. search rules) (λ c. search rules) (λ c. search rules) (λ c. search rules) (λ c. search rules) (λ c. search rules) (λ c. search rules))

@@ -11,6 +11,6 @@ invariant-loop words n c row₀ row = row ≤ AREAS
 abbrev decreases-loop : tie.decreases-loop
 decreases-loop words n c row₀ row = AREAS - row
 
-pub say-lists-spec : {M : Type 1} → statement M
-say-lists-spec =
+pub say_lists_spec : {M : Type 1} → statement M
+say_lists_spec =
     tie.close (tie.spec invariant-loop decreases-loop (λ c. search rules) (λ c κs. search rules) (λ c. search rules) (λ c. search rules) (λ c. search rules) (λ c. search rules))

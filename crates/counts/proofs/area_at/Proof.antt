@@ -31,8 +31,8 @@ returns c =
     let e : m.i ≡ c.before.before.args.row = omega arith in
     (m.invariant.2 ∙ ap (λ i. areas rows (take i c.before.before.args.t1)) e, omega arith)
 
-pub area-at-spec : {M : Type 1} → statement M
-area-at-spec =
+pub area_at_spec : {M : Type 1} → statement M
+area_at_spec =
     tie.close
     (tie.spec
     invariant-loop

@@ -42,8 +42,8 @@ returns-2 c =
     let m = c.before.loop in
     sym (lent-end _ m.invariant.1 m.i m.sum _ (omega arith)) ∙ m.invariant.3
 
-pub lent-enough-spec : {M : Type 1} → statement M
-lent-enough-spec =
+pub lent_enough_spec : {M : Type 1} → statement M
+lent_enough_spec =
     tie.close
     (tie.spec
     invariant-loop

@@ -31,8 +31,8 @@ returns-2 c =
     let m = c.before.loop in
     sym (room-end _ m.invariant.1 m.i _ m.invariant.2 (omega arith)) ∙ m.invariant.3
 
-pub room-spec : {M : Type 1} → statement M
-room-spec =
+pub room_spec : {M : Type 1} → statement M
+room_spec =
     tie.close
     (tie.spec
     invariant-loop

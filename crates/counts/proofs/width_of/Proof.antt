@@ -8,5 +8,5 @@ use Rattle.counts.proofs.width_of.Tie as tie
 returns : tie.Need-returns
 returns c = (refl, width-most c.args.row c.requires)
 
-pub width-of-spec : {M : Type 1} → statement M
-width-of-spec = tie.close (tie.spec (λ c. search rules) (λ c. search rules) returns)
+pub width_of_spec : {M : Type 1} → statement M
+width_of_spec = tie.close (tie.spec (λ c. search rules) (λ c. search rules) returns)

@@ -15,5 +15,5 @@ mul-result c = omega (arith, words-most c.before.args.entries c.width_of_lem.res
 returns : tie.Need-returns
 returns c = (ap (λ w. c.before.args.entries * w) c.width_of_lem.ensures.0, words-most c.before.args.entries c.width_of_lem.result (omega arith) c.width_of_lem.ensures.1)
 
-pub words-of-spec : {M : Type 1} → statement M
-words-of-spec = tie.close (tie.spec (λ c κs. search rules) mul-result returns)
+pub words_of_spec : {M : Type 1} → statement M
+words_of_spec = tie.close (tie.spec (λ c κs. search rules) mul-result returns)

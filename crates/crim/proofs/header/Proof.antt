@@ -50,8 +50,8 @@ returns-9 c =
     answer-found read.Header read.Refused _ _ _ (rw (c.word3.ensures, c.before.half2.ensures, c.before.before.half.ensures, w.word2.ensures))
     (header-found _ (omega arith) (signed w.before.before.before.before.before) (omega arith) (omega arith) (omega arith))
 
-pub header-spec : {M : Type 1} → statement M
-header-spec =
+pub header_spec : {M : Type 1} → statement M
+header_spec =
     tie.close
     (tie.spec
     (λ c κs. search rules)

@@ -13,8 +13,8 @@ returns c =
     simp run-number
     (rw (c.none.ensures, c.before.word4.ensures, a.absent.ensures, w.word3.ensures, w.before.word2.ensures, w.before.before.word.ensures))
 
-pub channel-spec : {M : Type 1} → statement M
-channel-spec =
+pub channel_spec : {M : Type 1} → statement M
+channel_spec =
     tie.close
     (tie.spec
     (λ c κs. search rules)

@@ -31,8 +31,8 @@ returns-2 c =
     let rows = table-rows _ _ _ _ _ (is_place _ _ (sym e.enum_told.given.1 ∙ e.before.before.table-end.ensures)) in
     c.check-records.ensures ∙ rw c.before.header_length.ensures.0 (sym (ap verdict rows))
 
-pub check-definitions-spec : {M : Type 1} → statement M
-check-definitions-spec =
+pub check_definitions_spec : {M : Type 1} → statement M
+check_definitions_spec =
     tie.close
     (tie.spec
     (λ c κs. search rules)

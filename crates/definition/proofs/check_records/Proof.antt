@@ -64,8 +64,8 @@ loop-again c =
 returns-2 : tie.Need-returns-2 invariant-loop decreases-loop
 returns-2 c = sym (c.before.loop.invariant.1 ∙ many-none (definition_at _) (step _) _ _ _ c.loop-test.false)
 
-pub check-records-spec : {M : Type 1} → statement M
-check-records-spec =
+pub check_records_spec : {M : Type 1} → statement M
+check_records_spec =
     tie.close
     (tie.spec
     invariant-loop

@@ -19,7 +19,7 @@ returns c =
     let f = n.before in
     definition_found _ _ _ _ f.before.fields_at.ensures _ f.name_field.ensures _ (name-until blob_end _ _ _ ∙ n.name_of.ensures) ∙ ap done (sym c.with-name.ensures)
 
-pub definition-of-spec : {M : Type 1} → statement M
-definition-of-spec =
+pub definition_of_spec : {M : Type 1} → statement M
+definition_of_spec =
     tie.close
     (tie.spec (λ c κs. search rules) (λ c κs. search rules) name-of-requires (λ c κs. search rules) returns)

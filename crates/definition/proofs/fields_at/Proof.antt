@@ -36,8 +36,8 @@ returns-4 c =
     let r = c.before.match.rest in
     rw (ne_eqb _ CHAN r.0.0.1, ne_eqb _ KEYW r.0.1, ne_eqb _ TASK r.1) c.plain.ensures
 
-pub fields-at-spec : {M : Type 1} → statement M
-fields-at-spec =
+pub fields_at_spec : {M : Type 1} → statement M
+fields_at_spec =
     tie.close
     (tie.spec
     channel-requires

@@ -26,8 +26,8 @@ returns c =
     c.before.before.fill-records.ensures
     ∙ rw l.header_length.ensures.0 (sym (ap (λ o. laid s.args.area.now 0 (flat definition_words (values o))) (table-rows _ _ _ _ _ t.1)))
 
-pub fill-definitions-spec : {M : Type 1} → statement M
-fill-definitions-spec =
+pub fill_definitions_spec : {M : Type 1} → statement M
+fill_definitions_spec =
     tie.close
     (tie.spec
     (λ c κs. search rules)

@@ -58,8 +58,8 @@ loop-again c =
 returns : tie.Need-returns invariant-loop decreases-loop
 returns c = sym (c.before.loop.invariant.4 ∙ rest-none (definition_at _) (step _) definition_words _ _ _ _ _ c.loop-test.false)
 
-pub fill-records-spec : {M : Type 1} → statement M
-fill-records-spec =
+pub fill_records_spec : {M : Type 1} → statement M
+fill_records_spec =
     tie.close
     (tie.spec
     invariant-loop

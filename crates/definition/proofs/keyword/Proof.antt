@@ -12,8 +12,8 @@ returns c =
     simp run-number
     (rw (c.none.ensures, c.before.absent.ensures, w.word4.ensures, w.before.word3.ensures, w.before.before.word2.ensures, w.before.before.before.word.ensures))
 
-pub keyword-spec : {M : Type 1} → statement M
-keyword-spec =
+pub keyword_spec : {M : Type 1} → statement M
+keyword_spec =
     tie.close
     (tie.spec
     (λ c κs. search rules)

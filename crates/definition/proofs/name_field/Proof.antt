@@ -10,5 +10,5 @@ returns-6 c =
     let r = c.match.rest in
     sym (no_name _ c.before.requires r.0.0.0.0.1 r.0.0.0.1 r.0.0.1 r.0.1 r.1)
 
-pub name-field-spec : {M : Type 1} → statement M
-name-field-spec = tie.close (tie.spec (λ c. search rules) (λ c. search rules) (λ c. search rules) (λ c. search rules) (λ c. search rules) returns-6)
+pub name_field_spec : {M : Type 1} → statement M
+name_field_spec = tie.close (tie.spec (λ c. search rules) (λ c. search rules) (λ c. search rules) (λ c. search rules) (λ c. search rules) returns-6)

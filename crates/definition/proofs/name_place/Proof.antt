@@ -19,5 +19,5 @@ returns-4 : tie.Need-returns-4
 returns-4 c =
     rw (ne_eqb _ CHAN c.match.rest.0.0.1, ne_eqb _ KEYW c.match.rest.0.1, ne_eqb _ TASK c.match.rest.1) (refl, c.before.requires)
 
-pub name-place-spec : {M : Type 1} → statement M
-name-place-spec = tie.close (tie.spec returns returns-2 returns-3 returns-4)
+pub name_place_spec : {M : Type 1} → statement M
+name_place_spec = tie.close (tie.spec returns returns-2 returns-3 returns-4)

@@ -11,8 +11,8 @@ returns c =
     let w = c.before.before in
     simp run-number (rw (c.none.ensures, c.before.absent.ensures, w.word3.ensures, w.before.word2.ensures, w.before.before.word.ensures))
 
-pub plain-spec : {M : Type 1} → statement M
-plain-spec =
+pub plain_spec : {M : Type 1} → statement M
+plain_spec =
     tie.close
     (tie.spec
     (λ c κs. search rules)

@@ -10,8 +10,8 @@ returns c =
     let w = a.before in
     task_found _ _ _ c.guid-at.ensures ∙ rw (a.absent.ensures, w.word3.ensures, w.before.word2.ensures, w.before.before.word.ensures)
 
-pub task-spec : {M : Type 1} → statement M
-task-spec =
+pub task_spec : {M : Type 1} → statement M
+task_spec =
     tie.close
     (tie.spec
     (λ c κs. search rules)

@@ -12,5 +12,5 @@ returns c =
     let f = c.before.before.before.before.before.before.index-write.ensures in
     record { coded = t.0 ∙ ap (λ x. get_or (index_numbers x) 0 0) f.0; numbered = t.1 ∙ ap (told _) (ap index_numbers f.0); kept = f.1 }
 
-pub ducat-index-write-spec : {M : Type 1} → statement M
-ducat-index-write-spec = tie.close (tie.spec (λ c κs. search rules) (λ c κs. search rules) (λ c. search rules) (λ c. search rules) returns)
+pub ducat_index_write_spec : {M : Type 1} → statement M
+ducat_index_write_spec = tie.close (tie.spec (λ c κs. search rules) (λ c κs. search rules) (λ c. search rules) (λ c. search rules) returns)

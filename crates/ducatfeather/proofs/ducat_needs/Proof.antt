@@ -12,8 +12,8 @@ returns c =
     let r = n.before.before.before.needs.ensures in
     record { coded = ap (λ (a : Answer). a.code) r; numbered = t.tell.ensures ∙ ap (told _) (n.numbers.ensures ∙ ap numbers r) }
 
-pub ducat-needs-spec : {M : Type 1} → statement M
-ducat-needs-spec =
+pub ducat_needs_spec : {M : Type 1} → statement M
+ducat_needs_spec =
     tie.close
     (tie.spec
     (λ c κs. search rules)

@@ -12,8 +12,8 @@ returns c =
     let r = n.before.before.before.before.before.read.ensures in
     record { coded = ap (λ (a : Answer). a.code) r.0; numbered = t.tell.ensures ∙ ap (told _) (n.numbers.ensures ∙ ap numbers r.0); kept = r.1 }
 
-pub ducat-read-spec : {M : Type 1} → statement M
-ducat-read-spec =
+pub ducat_read_spec : {M : Type 1} → statement M
+ducat_read_spec =
     tie.close
     (tie.spec
     (λ c κs. search rules)

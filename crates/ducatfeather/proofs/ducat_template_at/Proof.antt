@@ -12,8 +12,8 @@ returns c =
     let f = n.before.before.template-at.ensures in
     record { coded = c.template-code.ensures ∙ ap (λ x. get_or (template_numbers x) 0 0) f; numbered = t.tell.ensures ∙ ap (told _) (n.template-numbers.ensures ∙ ap template_numbers f) }
 
-pub ducat-template-at-spec : {M : Type 1} → statement M
-ducat-template-at-spec =
+pub ducat_template_at_spec : {M : Type 1} → statement M
+ducat_template_at_spec =
     tie.close
     (tie.spec
     (λ c κs. search rules)

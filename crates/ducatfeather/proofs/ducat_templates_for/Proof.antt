@@ -12,8 +12,8 @@ returns c =
     let f = n.before.before.before.before.templates-for.ensures in
     record { coded = c.guid-code.ensures ∙ ap (λ x. get_or (guid_numbers x) 0 0) f.0; numbered = t.tell.ensures ∙ ap (told _) (n.guid-numbers.ensures ∙ ap guid_numbers f.0); kept = f.1 }
 
-pub ducat-templates-for-spec : {M : Type 1} → statement M
-ducat-templates-for-spec =
+pub ducat_templates_for_spec : {M : Type 1} → statement M
+ducat_templates_for_spec =
     tie.close
     (tie.spec
     (λ c κs. search rules)

@@ -9,5 +9,5 @@ returns c = rw (ne_eqb _ _ c.if1.true) refl
 returns-2 : tie.Need-returns-2
 returns-2 c = rw (eq-eqb _ _ c.if1.false) refl
 
-pub each-row-spec : {M : Type 1} → statement M
-each-row-spec = tie.close (tie.spec returns returns-2)
+pub each_row_spec : {M : Type 1} → statement M
+each_row_spec = tie.close (tie.spec returns returns-2)

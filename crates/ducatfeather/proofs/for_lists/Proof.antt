@@ -9,5 +9,5 @@ use Rattle.ducatfeather.proofs.for_lists.Tie as tie
 returns : tie.Need-returns
 returns c = c.before.put.ensures ∙ laid-whole _ _ (sym c.before.before.before.before.requires)
 
-pub for-lists-spec : {M : Type 1} → statement M
-for-lists-spec = tie.close (tie.spec (λ c. search rules) (λ c κs. search rules) returns)
+pub for_lists_spec : {M : Type 1} → statement M
+for_lists_spec = tie.close (tie.spec (λ c. search rules) (λ c κs. search rules) returns)

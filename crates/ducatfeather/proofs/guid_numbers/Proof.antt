@@ -8,6 +8,6 @@ returns c = rw c.before.f.given.1
 returns-2 : tie.Need-returns-2
 returns-2 c = rw c.before.before.f2.given.1
 
-pub guid-numbers-spec : {M : Type 1} → statement M
-guid-numbers-spec =
+pub guid_numbers_spec : {M : Type 1} → statement M
+guid_numbers_spec =
     tie.close (tie.spec (λ c. search rules) (λ c. search rules) (λ c. search rules) (λ c. search rules) returns returns-2)

@@ -17,5 +17,5 @@ returns-2 : tie.Need-returns-2
 unfolding called_read
 returns-2 c = rw (ne_eqb _ _ c.before.if1.false) (ap answers.Refused c.own.ensures, refl)
 
-pub index-read-spec : {M : Type 1} → statement M
-index-read-spec = tie.close (tie.spec (λ c κs. search rules) (λ c. search rules) returns (λ c κs. search rules) returns-2)
+pub index_read_spec : {M : Type 1} → statement M
+index_read_spec = tie.close (tie.spec (λ c κs. search rules) (λ c. search rules) returns (λ c κs. search rules) returns-2)

@@ -9,7 +9,7 @@ returns c =
     let t = c.before.before.before in
     (c.index-code.ensures, t.tell.ensures ∙ ap (told _) t.before.before.index-numbers.ensures)
 
-pub index-told-spec : {M : Type 1} → statement M
-index-told-spec =
+pub index_told_spec : {M : Type 1} → statement M
+index_told_spec =
     tie.close
     (tie.spec (λ c κs. search rules) (λ c. search rules) (λ c κs. search rules) (λ c κs. search rules) (λ c. search rules) returns)

@@ -40,8 +40,8 @@ returns-3 c =
     let i = k.before.before in
     rw (sym i.before.before.each_row.ensures ∙ not-false _ i.before.if1.false, eq-eqb _ _ i.if2.false, sym k.before.for-lists.ensures, sym k.for-lists2.ensures) (w.write.ensures.answered, w.write.ensures.kept)
 
-pub index-write-spec : {M : Type 1} → statement M
-index-write-spec =
+pub index_write_spec : {M : Type 1} → statement M
+index_write_spec =
     tie.close
     (tie.spec
     (λ c κs. search rules)

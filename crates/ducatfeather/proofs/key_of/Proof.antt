@@ -7,8 +7,8 @@ use Rattle.ducatfeather.proofs.key_of.Tie as tie
 returns : tie.Need-returns
 returns c = refl
 
-pub key-of-spec : {M : Type 1} → statement M
-key-of-spec =
+pub key_of_spec : {M : Type 1} → statement M
+key_of_spec =
     tie.close
     (tie.spec
     (λ c. omega arith)

@@ -15,5 +15,5 @@ returns-2 : tie.Need-returns-2
 unfolding called_needs
 returns-2 c = rw (ne_eqb _ _ c.before.if1.false) (c.refusal.ensures ∙ sym (misfit-needs c.before.before.before.args.blob.now))
 
-pub needs-spec : {M : Type 1} → statement M
-needs-spec = tie.close (tie.spec (λ c κs. search rules) returns (λ c κs. search rules) returns-2)
+pub needs_spec : {M : Type 1} → statement M
+needs_spec = tie.close (tie.spec (λ c κs. search rules) returns (λ c κs. search rules) returns-2)

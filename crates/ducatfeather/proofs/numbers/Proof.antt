@@ -31,8 +31,8 @@ returns c =
     let m = c.before.loop in
     sym (laid_none _ _ 5 m.i (omega (arith, m.invariant.1))) ∙ m.invariant.3 ∙ laid-behind_five _ _ _ _ _ _ _ (sym m.invariant.1)
 
-pub numbers-spec : {M : Type 1} → statement M
-numbers-spec =
+pub numbers_spec : {M : Type 1} → statement M
+numbers_spec =
     tie.close
     (tie.spec
     invariant-loop

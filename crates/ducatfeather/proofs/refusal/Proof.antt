@@ -14,7 +14,7 @@ returns c = rw (lt-leb _ _ c.before.before.if1.true) (c.refuse.ensures ∙ ap (�
 returns-2 : tie.Need-returns-2
 returns-2 c = rw (le-leb _ _ c.before.before.if1.false) (c.refuse2.ensures ∙ ap (λ r. answer (refused r)) c.before.own2.ensures)
 
-pub refusal-spec : {M : Type 1} → statement M
-refusal-spec =
+pub refusal_spec : {M : Type 1} → statement M
+refusal_spec =
     tie.close
     (tie.spec (λ c κs. search rules) (λ c κs. search rules) returns (λ c κs. search rules) (λ c κs. search rules) returns-2)

@@ -37,8 +37,8 @@ returns-2 c =
     let e = c.before.before.if1.false in
     simp (eq-eqb _ _ e) (sym (l.invariant.2 ∙ laid_none _ _ _ c.loop-test.false) ∙ laid-whole _ _ e)
 
-pub tell-spec : {M : Type 1} → statement M
-tell-spec =
+pub tell_spec : {M : Type 1} → statement M
+tell_spec =
     tie.close
     (tie.spec
     invariant-loop

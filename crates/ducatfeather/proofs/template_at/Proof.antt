@@ -39,8 +39,8 @@ returns-3 c =
     let i = k.before.before in
     rw (sym i.before.before.each_row.ensures ∙ not-false _ i.before.if1.false, eq-eqb _ _ i.if2.false, sym k.before.for-lists.ensures, sym k.for-lists2.ensures) c.template-at.ensures.answered
 
-pub template-at-spec : {M : Type 1} → statement M
-template-at-spec =
+pub template_at_spec : {M : Type 1} → statement M
+template_at_spec =
     tie.close
     (tie.spec
     (λ c κs. search rules)

@@ -14,7 +14,7 @@ returns-2 c = rw c.enum_told.given.1
 returns-3 : tie.Need-returns-3
 returns-3 c = rw c.before.before.f2.given.1
 
-pub template-numbers-spec : {M : Type 1} → statement M
-template-numbers-spec =
+pub template_numbers_spec : {M : Type 1} → statement M
+template_numbers_spec =
     tie.close
     (tie.spec (λ c. search rules) (λ c. search rules) enum_told (λ c. search rules) (λ c. search rules) returns returns-2 returns-3)

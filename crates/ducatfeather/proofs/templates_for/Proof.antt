@@ -49,8 +49,8 @@ returns-4 c =
     let j = i.before in
     rw (sym j.before.before.each_row.ensures ∙ not-false _ j.before.if1.false, eq-eqb _ _ j.if2.false, eq-eqb _ _ i.if3.false, sym k.before.for-lists.ensures, sym k.for-lists2.ensures, sym y.key_of.ensures) (r.templates-for.ensures.answered, r.templates-for.ensures.kept)
 
-pub templates-for-spec : {M : Type 1} → statement M
-templates-for-spec =
+pub templates_for_spec : {M : Type 1} → statement M
+templates_for_spec =
     tie.close
     (tie.spec
     (λ c κs. search rules)

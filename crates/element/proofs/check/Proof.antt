@@ -94,8 +94,8 @@ returns-2 c =
     (omega (arith, inv.7, ap (λ ts. length ts) n)) (e.2 MAPS (omega arith) (omega arith)) (e.2 TTBL (omega arith) (omega arith)) (c.sum.ensures ∙ ap (λ u. capped (0 + u)) e.3))
     ∙ sym (ap needed_for (fine-done o inv.4))
 
-pub check-spec : {M : Type 1} → statement M
-check-spec =
+pub check_spec : {M : Type 1} → statement M
+check_spec =
     tie.close
     (tie.spec
     invariant-loop

@@ -6,8 +6,8 @@ use Rattle.element.specs.Checked.{checks_refused, checks_table, header-fits}
 use Rattle.element.proofs.check_element.Statement.{statement}
 use Rattle.element.proofs.check_element.Tie as tie
 
-pub check-element-spec : {M : Type 1} → statement M
-check-element-spec =
+pub check_element_spec : {M : Type 1} → statement M
+check_element_spec =
     tie.close
     (tie.spec
     (λ c κs. search rules)

@@ -69,8 +69,8 @@ loop-again c =
           c.if1.branch,
     )
 
-pub check-elements-spec : {M : Type 1} → statement M
-check-elements-spec =
+pub check_elements_spec : {M : Type 1} → statement M
+check_elements_spec =
     tie.close
     (tie.spec
     invariant-loop

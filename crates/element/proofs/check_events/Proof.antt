@@ -6,8 +6,8 @@ use Rattle.element.specs.Checked.{events-refused, events-found}
 use Rattle.element.proofs.check_events.Statement.{statement}
 use Rattle.element.proofs.check_events.Tie as tie
 
-pub check-events-spec : {M : Type 1} → statement M
-check-events-spec =
+pub check_events_spec : {M : Type 1} → statement M
+check_events_spec =
     tie.close
     (tie.spec
     (λ c κs. search rules)

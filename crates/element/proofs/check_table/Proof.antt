@@ -19,8 +19,8 @@ returns-4 c =
     let r = e.before.match.rest in
     c.no-entries.ensures ∙ ap without_entries e.check-definitions.ensures ∙ checks_definitions _ _ _ _ r.0.0.1 r.0.1 r.1
 
-pub check-table-spec : {M : Type 1} → statement M
-check-table-spec =
+pub check_table_spec : {M : Type 1} → statement M
+check_table_spec =
     tie.close
     (tie.spec
     (λ c κs. omega (arith, ap header_length c.match.keys1))

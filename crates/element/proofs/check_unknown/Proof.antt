@@ -30,8 +30,8 @@ returns-3 c =
     let w : o.args.at + e.word.result ≡ o.args.at + _ = ap (λ x. o.args.at + x) e.word.ensures in
     sym (unknown-fine o.args.at o.args.b.now (omega arith) (omega arith) _ w (omega arith))
 
-pub check-unknown-spec : {M : Type 1} → statement M
-check-unknown-spec =
+pub check_unknown_spec : {M : Type 1} → statement M
+check_unknown_spec =
     tie.close
     (tie.spec
     (λ c. search rules)

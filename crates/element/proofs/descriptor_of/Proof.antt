@@ -5,8 +5,8 @@ use Rattle.element.specs.Elements.{descriptor_fits, descriptor_words_lem}
 use Rattle.element.proofs.descriptor_of.Statement.{statement}
 use Rattle.element.proofs.descriptor_of.Tie as tie
 
-pub descriptor-of-spec : {M : Type 1} → statement M
-descriptor-of-spec =
+pub descriptor_of_spec : {M : Type 1} → statement M
+descriptor_of_spec =
     tie.close
     (tie.spec
     (λ c κs. search rules)

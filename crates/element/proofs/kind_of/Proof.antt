@@ -8,9 +8,9 @@ use Rattle.element.specs.Signatures.{names-none}
 use Rattle.element.proofs.kind_of.Statement.{statement}
 use Rattle.element.proofs.kind_of.Tie as tie
 
-pub kind-of-spec : {M : Type 1} → statement M
+pub kind_of_spec : {M : Type 1} → statement M
 unfolding kind_in
-kind-of-spec =
+kind_of_spec =
     tie.close
     (tie.spec
     (λ c κs. search rules)

@@ -5,9 +5,9 @@ use Rattle.element.specs.Signatures.{in_cell}
 use Rattle.element.proofs.named.Statement.{statement}
 use Rattle.element.proofs.named.Tie as tie
 
-pub named-spec : {M : Type 1} → statement M
+pub named_spec : {M : Type 1} → statement M
 unfolding in_cell
-named-spec =
+named_spec =
     tie.close
     (tie.spec
     (λ c. search rules)

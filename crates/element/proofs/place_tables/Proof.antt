@@ -35,8 +35,8 @@ loop-again c =
       inv.3 ∙ placed-more _ _ _ more _ found inv.1 _ _ c.kind-of.ensures.0,
     )
 
-pub place-tables-spec : {M : Type 1} → statement M
-place-tables-spec =
+pub place_tables_spec : {M : Type 1} → statement M
+place_tables_spec =
     tie.close
     (tie.spec
     invariant-loop

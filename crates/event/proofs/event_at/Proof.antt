@@ -30,8 +30,8 @@ returns c =
       flags = c.word10.ensures i;
     }))
 
-pub event-at-spec : {M : Type 1} → statement M
-event-at-spec =
+pub event_at_spec : {M : Type 1} → statement M
+event_at_spec =
     tie.close
     (tie.spec
     (λ c κs. search rules)

@@ -40,8 +40,8 @@ loop-again c =
 returns : tie.Need-returns invariant-loop decreases-loop
 returns c = sym (c.before.loop.invariant.3 ∙ rest-none event_at (step 48) event_words _ _ _ _ _ c.loop-test.false)
 
-pub fill-events-spec : {M : Type 1} → statement M
-fill-events-spec =
+pub fill_events_spec : {M : Type 1} → statement M
+fill_events_spec =
     tie.close
     (tie.spec
     invariant-loop

@@ -49,8 +49,8 @@ loop-again c =
 returns : tie.Need-returns invariant-loop decreases-loop
 returns c = (omega arith, sym (c.before.loop.invariant.4 ∙ rest-none descriptor_at (step 8) descriptor_words _ _ _ _ _ c.loop-test.false))
 
-pub fill-descriptors-spec : {M : Type 1} → statement M
-fill-descriptors-spec =
+pub fill_descriptors_spec : {M : Type 1} → statement M
+fill_descriptors_spec =
     tie.close
     (tie.spec
     invariant-loop

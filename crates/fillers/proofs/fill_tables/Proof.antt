@@ -73,8 +73,8 @@ returns : tie.Need-returns invariant-loop decreases-loop
 unfolding behind_all table_parts
 returns c = left-none (rw (kept-none _ _ _ c.loop-test.false) at c.before.loop.invariant.1)
 
-pub fill-tables-spec : {M : Type 1} → statement M
-fill-tables-spec =
+pub fill_tables_spec : {M : Type 1} → statement M
+fill_tables_spec =
     tie.close
     (tie.spec
     invariant-loop

@@ -65,8 +65,8 @@ returns c =
       sym (l.invariant.3.1 ∙ ap (λ (es : List Element). laid l.area l.to (flat (unknown_words o.number) (unknowns es))) e),
     )
 
-pub fill-unknown-spec : {M : Type 1} → statement M
-fill-unknown-spec =
+pub fill_unknown_spec : {M : Type 1} → statement M
+fill_unknown_spec =
     tie.close
     (tie.spec
     invariant-loop

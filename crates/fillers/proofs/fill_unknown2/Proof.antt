@@ -48,8 +48,8 @@ loop-again c =
 returns : tie.Need-returns invariant-loop decreases-loop
 returns c = (omega arith, sym (c.before.loop.invariant.3 ∙ rest-none (number 4) (step 4) unknown2_words _ _ _ _ _ c.loop-test.false))
 
-pub fill-unknown2-spec : {M : Type 1} → statement M
-fill-unknown2-spec =
+pub fill_unknown2_spec : {M : Type 1} → statement M
+fill_unknown2_spec =
     tie.close
     (tie.spec
     invariant-loop

@@ -23,7 +23,7 @@ returns-6 : tie.Need-returns-6
 returns-6 c =
     rw (ne_eqb _ _ c.match.rest.0.0.0.0.1, ne_eqb _ _ c.match.rest.0.0.0.1, ne_eqb _ _ c.match.rest.0.0.1, ne_eqb _ _ c.match.rest.0.1, ne_eqb _ _ c.match.rest.1)
 
-pub has-entries-spec : {M : Type 1} → statement M
-has-entries-spec =
+pub has_entries_spec : {M : Type 1} → statement M
+has_entries_spec =
     tie.close
     (tie.spec (λ c κs. search rules) returns returns-2 returns-3 returns-4 returns-5 returns-6)

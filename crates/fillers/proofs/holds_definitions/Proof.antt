@@ -15,5 +15,5 @@ returns-3 c = rw c.match.keys3
 returns-4 : tie.Need-returns-4
 returns-4 c = rw (ne_eqb _ _ c.match.rest.0.0.1, ne_eqb _ _ c.match.rest.0.1, ne_eqb _ _ c.match.rest.1)
 
-pub holds-definitions-spec : {M : Type 1} → statement M
-holds-definitions-spec = tie.close (tie.spec returns returns-2 returns-3 returns-4)
+pub holds_definitions_spec : {M : Type 1} → statement M
+holds_definitions_spec = tie.close (tie.spec returns returns-2 returns-3 returns-4)

@@ -44,5 +44,5 @@ returns-2 c =
     let o = c.before.before.before.before in
     kind-none _ o.args.list o.args.kind o.args.place _ _ _ o.requires.0.3 (sym c.before.has-any.ensures ∙ c.if1.false)
 
-pub put-kind-spec : {M : Type 1} → statement M
-put-kind-spec = tie.close (tie.spec (λ c κs. search rules) header-of-requires put-rows-requires (λ c. search rules) returns returns-2)
+pub put_kind_spec : {M : Type 1} → statement M
+put_kind_spec = tie.close (tie.spec (λ c κs. search rules) header-of-requires put-rows-requires (λ c. search rules) returns returns-2)

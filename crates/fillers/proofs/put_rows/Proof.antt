@@ -127,8 +127,8 @@ returns-7 c =
     let y = parts-templates o.args.list r.0.0.0.0.0.1 r.0.0.0.0.1 r.0.0.0.1 r.0.0.1 r.0.1 r.1 o.args.number o.args.before.now (run (table_at o.args.kind o.args.at o.args.h) o.args.b.now) in
     rw (y.0, y.1) ((fills_templates _ _ _ _ o.requires.1.0 q o.args.number o.args.before.now o.args.area.now (rw (y.0, y.1) at o.requires.1.1.1)).2 _ f.fill.ensures)
 
-pub put-rows-spec : {M : Type 1} → statement M
-put-rows-spec =
+pub put_rows_spec : {M : Type 1} → statement M
+put_rows_spec =
     tie.close (
     tie.spec (λ c. search rules) put-table-requires fill-definitions-requires (λ c. search rules) (λ c. search rules) fill-events-requires (λ c. search rules)
     (λ c. search rules) fill-maps-requires (λ c. search rules) (λ c. search rules) fill-entries-requires (λ c. search rules) add-before (λ c. search rules)

@@ -25,8 +25,8 @@ returns c =
     let o = r.before.before.before.before in
     table-stored _ _ _ _ o.requires.1.0 o.requires.0.0 o.requires.0.1 o.args.number o.args.before.now o.args.area.now o.requires.1.1 _ _ _ r.before.trailing-of.ensures r.row_of.ensures.0 p.put.ensures
 
-pub put-table-spec : {M : Type 1} → statement M
-put-table-spec =
+pub put_table_spec : {M : Type 1} → statement M
+put_table_spec =
     tie.close
     (tie.spec
     (λ c κs. search rules)

@@ -37,8 +37,8 @@ returns-2 c =
     let e = ne_eqb _ _ (λ z. c.if1.false (c.before.kind-of.ensures.0 ∙ z)) in
     rw e (refl, refl)
 
-pub put-unknown-spec : {M : Type 1} → statement M
-put-unknown-spec =
+pub put_unknown_spec : {M : Type 1} → statement M
+put_unknown_spec =
     tie.close
     (tie.spec
     (λ c κs. search rules)

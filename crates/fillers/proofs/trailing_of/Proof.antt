@@ -62,8 +62,8 @@ returns-3 c =
     let e = is_place _ _ (sym d.end.given.1 ∙ q.table-end.ensures) in
     rw c.word.ensures (sym (ap trailing_of v.1 ∙ trailing_is _ _ _ _ _ _ l.if1.false e (shape _ _ _ _ _ v.1)))
 
-pub trailing-of-spec : {M : Type 1} → statement M
-trailing-of-spec =
+pub trailing_of_spec : {M : Type 1} → statement M
+trailing_of_spec =
     tie.close
     (tie.spec
     returns

@@ -6,7 +6,7 @@ use Rattle.blob.specs.Laid.{flat}
 use Rattle.format.specs.Area.{TABLES, MAPS, ITEMS}
 use Rattle.format.specs.Provider.{Table, Provider}
 use Rattle.format.specs.Lists.{kept}
-use Rattle.format.specs.steps.Parts.{behind, behind_all, passed_all}
+use Rattle.format.specs.steps.Parts.{passed, behind, behind_all, passed_all}
 
 -- what holds of each of two holds of the one that is chosen
 pub choose-either : {A : Type 0} (t : Bool) (P : A → Type 0) {a b : A} → P a → P b → P (choose t a b)
@@ -16,7 +16,7 @@ choose-either false P g h = h
 pub behind_all-append : (l : ℕ) (before : List ℕ) (ts us : List Table) → behind_all l before (ts ++ us) ≡ behind_all l (behind_all l before ts) us
 unfolding behind_all
 behind_all-append l before [] us = refl
-behind_all-append l before (t ∷ ts) us = behind_all-append l _ ts us
+behind_all-append l before (t ∷ ts) us = behind_all-append l (behind l before t) ts us
 
 -- a list that counts nothing
 pub behind_all-same : (l : ℕ) → ((b : List ℕ) (t : Table) → behind l b t ≡ b) → (before : List ℕ) (ts : List Table) → behind_all l before ts ≡ before
@@ -39,7 +39,7 @@ behind_all-length l before (t ∷ ts) = behind_all-length l (behind l before t) 
 pub passed_all-tables : (l : ℕ) (before : List ℕ) (ps : List Provider) → passed_all l before ps ≡ behind_all l before (flat (λ p. kept p.elements) ps)
 unfolding passed_all behind_all flat
 passed_all-tables l before [] = refl
-passed_all-tables l before (p ∷ ps) = passed_all-tables l _ ps ∙ sym (behind_all-append l before (kept p.elements) _)
+passed_all-tables l before (p ∷ ps) = passed_all-tables l (passed l before p) ps ∙ sym (behind_all-append l before (kept p.elements) _)
 
 -- none more changes nothing
 pub set_same : (ns : List ℕ) (i : ℕ) → set ns i (get_or ns i 0 + 0) ≡ ns

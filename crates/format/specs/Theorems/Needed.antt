@@ -53,12 +53,12 @@ module _ (a b c d h : ℕ) (others : List ℕ) where
 table_entries-length : (w : List ℕ) (os : List Owned) → length (table_entries w os) ≡ length os
 unfolding table_entries
 table_entries-length w [] = refl
-table_entries-length w (o ∷ os) = ap suc (table_entries-length _ os)
+table_entries-length w (o ∷ os) = ap suc (table_entries-length (after w o.table.rows) os)
 
 pub map_list_length : (n : ℕ) (ms : List Mapped) → length (map_list n ms) ≡ length ms
 unfolding map_list
 map_list_length n [] = refl
-map_list_length n (m ∷ ms) = ap suc (map_list_length _ ms)
+map_list_length n (m ∷ ms) = ap suc (map_list_length (n + length m.entries) ms)
 
 item_list-length : (n : ℕ) (ts : List Template) → length (item_list n ts) ≡ length (flat (λ t. t.items) ts)
 unfolding item_list flat

@@ -2,7 +2,7 @@
 -- templates of its own provider alone.
 use Rattle.std.specs.Prelude.{ℕ, suc, ◌+◌, ◌<◌, ◌≡◌, Bool, true, false, not, ◌&&◌, ◌||◌, length, take, drop, eqb}
 use Rattle.std.proofs.Math.Path.{refl}
-use Rattle.std.proofs.Common.{ap, ap₂, sym, ◌∙◌, zero-add, add-zero, arith, length-append, length-set, get_or-set_same, get_or-set_other, eqb-true, eq-eqb, ne_eqb}
+use Rattle.std.proofs.Common.{subst, ap, ap₂, sym, ◌∙◌, zero-add, add-zero, arith, length-append, length-set, get_or-set_same, get_or-set_other, eqb-true, eq-eqb, ne_eqb}
 use mathlib.Core.List.{List, [], ◌∷◌, ◌++◌, map, append_assoc, append-nil}
 use Rattle.std.proofs.lemmas.List.{length-map}
 use Rattle.std.proofs.Math.Seq.{take-append_seam, drop-append_seam}
@@ -77,7 +77,8 @@ those-here m k [] p rs =
 those-here m k (q ∷ qs) p rs =
     let e : suc m + length qs ≡ m + suc (length qs) = omega arith in
     those-append (of_kind (m + suc (length qs)) k) (owned m (kept q.elements)) _
-    ∙ ap₂ (λ (a b : List Owned). a ++ b) (those-other (m + suc (length qs)) m k (kept q.elements) (λ e. omega arith)) (rw (← e) (those-here (suc m) k qs p rs))
+    ∙ ap₂ (λ (a b : List Owned). a ++ b) (those-other (m + suc (length qs)) m k (kept q.elements) (λ e. omega arith)) (subst (λ n. those (of_kind n k) (owned_tables (suc m) (qs ++ p ∷ rs)) ≡ owned n (those (λ t. eqb t.kind k) (kept p.elements))) e
+    (those-here (suc m) k qs p rs))
 
 -- the last table of a kind is of that kind, and one only
 none-either : (b : Bool) → [] ≡ choose {A = List Table} b [] []
@@ -232,8 +233,9 @@ pub tables-own : (m : ℕ) (before : List ℕ) (pre : List Entry) (os : List Own
 unfolding flat every table_entries
 tables-own m before pre [] h g a = refl
 tables-own m before pre (o ∷ os) h g a =
-    rw (owns (eqb o.table.kind TTBL) refl, ← append_assoc pre mine others)
-    (tables-own m (after before o.table.rows) (pre ++ mine) os (length-set before _ _ ∙ h) (behind-own TEMPLATES TTBL template_items refl templates-more templates-counted refl kept-templates before pre o h g) a.1)
+    rw (owns (eqb o.table.kind TTBL) refl)
+    (subst (λ all. tables_own all (table_entries (after before o.table.rows) os) ≡ true) (append_assoc pre mine others)
+    (tables-own m (after before o.table.rows) (pre ++ mine) os (length-set before _ _ ∙ h) (behind-own TEMPLATES TTBL template_items refl templates-more templates-counted refl kept-templates before pre o h g) a.1))
   where
     mine : List Entry
     mine = template_items o.provider o.table.rows

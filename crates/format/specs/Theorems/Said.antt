@@ -11,6 +11,7 @@ use Rattle.format.specs.Answer.{own, lent_enough, capped}
 use Rattle.format.specs.Lookup.{entries_of, counts_fit, position, numbered, by_offset, guids_found}
 use Rattle.format.specs.Says.{verdict_told, end_told, header_told, map_told, entries_told, crim_told, wevt_told, guids_told, template_told}
 use Rattle.format.specs as format
+use Rattle.format.specs.Theorems.Grows.{choose-either}
 
 -- an enum is the answer for an outcome exactly where it tells that outcome, or what it keeps of it
 abbrev pub Exactly : {A R : Type 0} → (R → Outcome A) → (Outcome A → R) → Type 0
@@ -43,21 +44,21 @@ pub record Enums : Type 1 where
 pub enums : Enums
 enums =
     record {
-      verdict = keeps verdict_told (λ a. tt) (λ u. verdicts.Fine) (exactly verdict_told (λ a. refl) (λ q. refl) (λ r. elim r [ verdicts.Fine ↦ refl | verdicts.Refused q ↦ refl ]));
-      header = exactly header_told (λ a. refl) (λ q. refl) (λ r. elim r [ format.declared.HeaderRead.TheVariants.Header a ↦ refl | format.declared.HeaderRead.TheVariants.Refused q ↦ refl ]);
-      crim = exactly crim_told (λ a. refl) (λ q. refl) (λ r. elim r [ format.declared.CrimRead.TheVariants.Header a ↦ refl | format.declared.CrimRead.TheVariants.Refused q ↦ refl ]);
-      wevt = exactly wevt_told (λ a. refl) (λ q. refl) (λ r. elim r [ format.declared.WevtRead.TheVariants.Wevt a ↦ refl | format.declared.WevtRead.TheVariants.Refused q ↦ refl ]);
-      end = λ told. keeps end_told told format.declared.EndRead.TheVariants.End (exactly end_told (λ a. refl) (λ q. refl) (λ r. elim r [ format.declared.EndRead.TheVariants.End a ↦ refl | format.declared.EndRead.TheVariants.Refused q ↦ refl ]));
-      map = keeps map_told (λ m. m.map) format.declared.MapRead.TheVariants.Map (exactly map_told (λ a. refl) (λ q. refl) (λ r. elim r [ format.declared.MapRead.TheVariants.Map a ↦ refl | format.declared.MapRead.TheVariants.Refused q ↦ refl ]));
-      counted = λ count. keeps entries_told (λ a. capped (count a)) format.declared.EntriesRead.TheVariants.Entries (exactly entries_told (λ a. refl) (λ q. refl) (λ r. elim r [ format.declared.EntriesRead.TheVariants.Entries a ↦ refl | format.declared.EntriesRead.TheVariants.Refused q ↦ refl ]));
-      guids = keeps guids_told (λ gs. length gs) format.declared.GuidsFound.TheVariants.Given (exactly guids_told (λ a. refl) (λ q. refl) (λ r. elim r [ format.declared.GuidsFound.TheVariants.Given a ↦ refl | format.declared.GuidsFound.TheVariants.Refused q ↦ refl ]));
+      verdict = keeps verdict_told (λ a. tt) (λ u. verdicts.Fine) (exactly verdict_told (λ a. refl) (λ q. refl) (λ r. elim r as (λ k. k ≡ answer (λ u. verdicts.Fine) verdicts.Refused (verdict_told k)) [ verdicts.Fine ↦ refl | verdicts.Refused q ↦ refl ]));
+      header = exactly header_told (λ a. refl) (λ q. refl) (λ r. elim r as (λ k. k ≡ answer format.declared.HeaderRead.TheVariants.Header format.declared.HeaderRead.TheVariants.Refused (header_told k)) [ format.declared.HeaderRead.TheVariants.Header a ↦ refl | format.declared.HeaderRead.TheVariants.Refused q ↦ refl ]);
+      crim = exactly crim_told (λ a. refl) (λ q. refl) (λ r. elim r as (λ k. k ≡ answer format.declared.CrimRead.TheVariants.Header format.declared.CrimRead.TheVariants.Refused (crim_told k)) [ format.declared.CrimRead.TheVariants.Header a ↦ refl | format.declared.CrimRead.TheVariants.Refused q ↦ refl ]);
+      wevt = exactly wevt_told (λ a. refl) (λ q. refl) (λ r. elim r as (λ k. k ≡ answer format.declared.WevtRead.TheVariants.Wevt format.declared.WevtRead.TheVariants.Refused (wevt_told k)) [ format.declared.WevtRead.TheVariants.Wevt a ↦ refl | format.declared.WevtRead.TheVariants.Refused q ↦ refl ]);
+      end = λ told. keeps end_told told format.declared.EndRead.TheVariants.End (exactly end_told (λ a. refl) (λ q. refl) (λ r. elim r as (λ k. k ≡ answer format.declared.EndRead.TheVariants.End format.declared.EndRead.TheVariants.Refused (end_told k)) [ format.declared.EndRead.TheVariants.End a ↦ refl | format.declared.EndRead.TheVariants.Refused q ↦ refl ]));
+      map = keeps map_told (λ m. m.map) format.declared.MapRead.TheVariants.Map (exactly map_told (λ a. refl) (λ q. refl) (λ r. elim r as (λ k. k ≡ answer format.declared.MapRead.TheVariants.Map format.declared.MapRead.TheVariants.Refused (map_told k)) [ format.declared.MapRead.TheVariants.Map a ↦ refl | format.declared.MapRead.TheVariants.Refused q ↦ refl ]));
+      counted = λ count. keeps entries_told (λ a. capped (count a)) format.declared.EntriesRead.TheVariants.Entries (exactly entries_told (λ a. refl) (λ q. refl) (λ r. elim r as (λ k. k ≡ answer format.declared.EntriesRead.TheVariants.Entries format.declared.EntriesRead.TheVariants.Refused (entries_told k)) [ format.declared.EntriesRead.TheVariants.Entries a ↦ refl | format.declared.EntriesRead.TheVariants.Refused q ↦ refl ]));
+      guids = keeps guids_told (λ gs. length gs) format.declared.GuidsFound.TheVariants.Given (exactly guids_told (λ a. refl) (λ q. refl) (λ r. elim r as (λ k. k ≡ answer format.declared.GuidsFound.TheVariants.Given format.declared.GuidsFound.TheVariants.Refused (guids_told k)) [ format.declared.GuidsFound.TheVariants.Given a ↦ refl | format.declared.GuidsFound.TheVariants.Refused q ↦ refl ]));
     }
 
 -- the lookup by offset: the number of one template or of none, 10 or 8
 number-told : (p : format.Lists.Entry → Bool) (n : ℕ) (ts : List format.Lists.Entry) → template_told (numbered (position p n ts)) ≡ done (position p n ts)
 unfolding position
 number-told p n [] = refl
-number-told p n (t ∷ ts) = format.theorems.Grows.choose-either (p t) (λ ns. template_told (numbered ns) ≡ done ns) refl (number-told p (suc n) ts)
+number-told p n (t ∷ ts) = choose-either (p t) (λ ns. template_told (numbered ns) ≡ done ns) refl (number-told p (suc n) ts)
 
 offset-by : (a b : Bool) (ns : List ℕ) → template_told (numbered ns) ≡ done ns → template_told (choose a (choose b (numbered ns) (format.declared.TemplateFound.TheVariants.Refused (own 10))) (format.declared.TemplateFound.TheVariants.Refused (own 8)))
     ≡ choose a (choose b (done ns) (refused (own 10))) (refused (own 8))
@@ -76,7 +77,7 @@ offset-told words capacities counts provider first count offset =
     offset-by (lent_enough capacities words) (counts_fit counts capacities && leb (first + count) (of TEMPLATES counts)) _ (number-told (format.Lookup.matches provider offset) first (take count (drop first (entries_of words capacities counts TEMPLATES))))
 
 found_back : (r : format.declared.TemplateFound.TemplateFound) → r ≡ answer numbered format.declared.TemplateFound.TheVariants.Refused (template_told r)
-found_back r = elim r [ format.declared.TemplateFound.TheVariants.Number n ↦ refl | format.declared.TemplateFound.TheVariants.Nothing ↦ refl | format.declared.TemplateFound.TheVariants.Refused q ↦ refl ]
+found_back r = elim r as (λ k. k ≡ answer numbered format.declared.TemplateFound.TheVariants.Refused (template_told k)) [ format.declared.TemplateFound.TheVariants.Number n ↦ refl | format.declared.TemplateFound.TheVariants.Nothing ↦ refl | format.declared.TemplateFound.TheVariants.Refused q ↦ refl ]
 
 pub found-exactly : (r found : format.declared.TemplateFound.TemplateFound) → (r ≡ found) ↔ (template_told r ≡ template_told found)
 found-exactly r found = (λ e. ap template_told e, λ e. found_back r ∙ ap (answer numbered format.declared.TemplateFound.TheVariants.Refused) e ∙ sym (found_back found))

@@ -49,14 +49,14 @@ unfolding filled
 filled-before n words at [] cs ls h = refl
 filled-before n words at (r ∷ rs) [] ls h = refl
 filled-before n words at (r ∷ rs) (c ∷ cs) [] h = refl
-filled-before n words at (r ∷ rs) (c ∷ cs) (l ∷ ls) h = filled-before n _ (at + c * r.words) rs cs ls (omega arith) ∙ laid-before n words at _ h
+filled-before n words at (r ∷ rs) (c ∷ cs) (l ∷ ls) h = filled-before n (laid words at (flat (λ e. e) l)) (at + c * r.words) rs cs ls (omega arith) ∙ laid-before n words at _ h
 
 pub filled-length : (words : List ℕ) (at : ℕ) (rs : List Row) (cs : List ℕ) (ls : List (List Entry)) → length (filled words at rs cs ls) ≡ length words
 unfolding filled
 filled-length words at [] cs ls = refl
 filled-length words at (r ∷ rs) [] ls = refl
 filled-length words at (r ∷ rs) (c ∷ cs) [] = refl
-filled-length words at (r ∷ rs) (c ∷ cs) (l ∷ ls) = filled-length _ (at + c * r.words) rs cs ls ∙ length-laid words at _
+filled-length words at (r ∷ rs) (c ∷ cs) (l ∷ ls) = filled-length (laid words at (flat (λ e. e) l)) (at + c * r.words) rs cs ls ∙ length-laid words at _
 
 -- entries of one width are taken out of their words
 entries-wide : {k : ℕ} {es : List Entry} → Wide k es → (at : ℕ) (ws : List ℕ) → take (length (flat (λ e. e) es)) (drop at ws) ≡ flat (λ e. e) es → entries_from k (length es) at ws ≡ es

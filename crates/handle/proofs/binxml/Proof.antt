@@ -202,9 +202,9 @@ binxml-meets {𝓤 = 𝓤} 𝓛 mem run 𝓣 known-shown = walk_Meets 𝓛 binxm
     (WpFn 𝓤 𝓛.H 𝓣.C 𝓣.Λ code.function) (WpFn-mono 𝓤 𝓛.H 𝓛.laws 𝓣 code.function)
     (binxml-walks 𝓛 mem run 𝓣.C 𝓣.Λ (fm_of 𝓤 𝓛.H 𝓛.laws 𝓣) known-shown)
 
-pub binxml-spec : {M : Type 1} → stated.statement M
+pub binxml_spec : {M : Type 1} → stated.statement M
 unfolding code.routine tables_of
-binxml-spec 𝓤 𝓛 𝓜 𝓡 =
+binxml_spec 𝓤 𝓛 𝓜 𝓡 =
     entered 𝓤 𝓛.H (triple_of 𝓛 binxml.signature (binxml.spec 𝓛 𝓜.mem 𝓡.run))
     (tables 𝓤 𝓛.H 𝓜 𝓡 code.env).C (tables 𝓤 𝓛.H 𝓜 𝓡 code.env).Λ #handle·binxml code.function (code.unfolded 𝓤 𝓛.H 𝓜 𝓡)
     (binxml-meets 𝓛 𝓜.mem 𝓡.run (tables_of 𝓤 𝓛.H 𝓜 (tables 𝓤 𝓛.H 𝓜 𝓡 code.env))

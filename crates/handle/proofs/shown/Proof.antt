@@ -18,8 +18,8 @@ returns-3 : tie.Need-returns-3
 unfolding shown
 returns-3 c = simp (le-leb _ _ c.before.before.if1.false, le-leb _ _ c.before.if2.false, add-sub_cancel_left)
 
-pub shown-spec : {M : Type 1} → statement M
-shown-spec =
+pub shown_spec : {M : Type 1} → statement M
+shown_spec =
     tie.close
     (tie.spec
     (λ c. search rules)

@@ -98,8 +98,8 @@ returns-5 c =
       shown = rw (n.3, k.2, r.2, r.3) refl;
     }
 
-pub check-spec : {M : Type 1} → statement M
-check-spec =
+pub check_spec : {M : Type 1} → statement M
+check_spec =
     tie.close
     (tie.spec
     word-at-requires

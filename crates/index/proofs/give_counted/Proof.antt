@@ -31,8 +31,8 @@ returns c =
     let f = g.before.before.before.before.before.before in
     counted-given _ _ _ _ _ _ f.requires.1 _ _ _ g.give-rows.ensures _ _ k.give-rows2.ensures
 
-pub give-counted-spec : {M : Type 1} → statement M
-give-counted-spec =
+pub give_counted_spec : {M : Type 1} → statement M
+give_counted_spec =
     tie.close
     (tie.spec
     slice-aggregate-give-rows

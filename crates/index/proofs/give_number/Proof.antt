@@ -24,8 +24,8 @@ returns-2 : tie.Need-returns-2
 unfolding laid
 returns-2 c = let a = c.before.args in let e = words-one a.width a.number c.if1.false c.before.requires.0 in rw e (refl, refl)
 
-pub give-number-spec : {M : Type 1} → statement M
-give-number-spec =
+pub give_number_spec : {M : Type 1} → statement M
+give_number_spec =
     tie.close
     (tie.spec
     (λ c. search rules)

@@ -64,8 +64,8 @@ returns c =
     let n = row-left_none _ _ _ _ _ _ _ _ _ c.before.loop.invariant.2 c.loop-test.false in
     record { place = ap₂ (λ a t. record { at = a; to = t }) n.0 n.1; kept = n.2 }
 
-pub give-row-spec : {M : Type 1} → statement M
-give-row-spec =
+pub give_row_spec : {M : Type 1} → statement M
+give_row_spec =
     tie.close
     (tie.spec
     invariant-loop

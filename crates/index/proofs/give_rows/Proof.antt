@@ -49,8 +49,8 @@ returns c =
     let n = rows-left_none _ _ _ _ _ _ _ _ _ c.before.loop.invariant.1 c.loop-test.false in
     record { place = ap₂ (λ a t. record { at = a; to = t }) n.0 n.1; kept = n.2 }
 
-pub give-rows-spec : {M : Type 1} → statement M
-give-rows-spec =
+pub give_rows_spec : {M : Type 1} → statement M
+give_rows_spec =
     tie.close
     (tie.spec
     invariant-loop

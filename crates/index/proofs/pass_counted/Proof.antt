@@ -44,8 +44,8 @@ returns-3 c =
     let r = was_passed (λ (r : Rows). r.behind) _ _ (sym c.before.behind.given.1 ∙ p.pass-rows.ensures) in
     sym (counted-goes _ _ _ n.0 _ _ n.1 n.2 n.3 r.0 _ r.1 r.2)
 
-pub pass-counted-spec : {M : Type 1} → statement M
-pass-counted-spec =
+pub pass_counted_spec : {M : Type 1} → statement M
+pass_counted_spec =
     tie.close
     (tie.spec
     word-at-requires

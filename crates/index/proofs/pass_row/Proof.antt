@@ -60,8 +60,8 @@ loop-again c =
 returns-2 : tie.Need-returns-2 invariant-loop decreases-loop
 returns-2 c = sym (c.before.loop.invariant.1 ∙ ap behind_row (row-over _ _ _ _ c.loop-test.false))
 
-pub pass-row-spec : {M : Type 1} → statement M
-pass-row-spec =
+pub pass_row_spec : {M : Type 1} → statement M
+pass_row_spec =
     tie.close
     (tie.spec
     invariant-loop

@@ -46,8 +46,8 @@ loop-again c =
 returns-2 : tie.Need-returns-2 invariant-loop decreases-loop
 returns-2 c = sym (c.before.loop.invariant ∙ ap behind_rows (rows-over _ _ _ _ c.loop-test.false))
 
-pub pass-rows-spec : {M : Type 1} → statement M
-pass-rows-spec =
+pub pass_rows_spec : {M : Type 1} → statement M
+pass_rows_spec =
     tie.close
     (tie.spec
     invariant-loop

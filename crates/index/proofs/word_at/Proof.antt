@@ -45,8 +45,8 @@ pass-requires : tie.Need-pass-requires
 unfolding ones
 pass-requires c κs = refl
 
-pub word-at-spec : {M : Type 1} → statement M
-word-at-spec =
+pub word_at_spec : {M : Type 1} → statement M
+word_at_spec =
     tie.close
     (tie.spec
     pass-requires

@@ -41,5 +41,5 @@ returns-2 c =
     let l = c.before in
     sym (l.loop.invariant.1 ∙ every-none (λ e. fields_fit e) l.before.before.args.words.now (width EVENTS) _ _ c.loop-test.false)
 
-pub all-fit-spec : {M : Type 1} → statement M
-all-fit-spec = tie.close (tie.spec invariant-loop decreases-loop loop-holds (λ c κs. search rules) returns (λ c. search rules) (λ c. search rules) (λ c. search rules) loop-again returns-2)
+pub all_fit_spec : {M : Type 1} → statement M
+all_fit_spec = tie.close (tie.spec invariant-loop decreases-loop loop-holds (λ c κs. search rules) returns (λ c. search rules) (λ c. search rules) (λ c. search rules) loop-again returns-2)

@@ -22,5 +22,5 @@ returns-3 c =
     let o = t.before.before.before.before in
     sym (finds-some _ o.args.at o.requires.0 _ t.before.if1.false ∙ some-found _ o.args.templates.first _ _ (sym t.at_offset.ensures ∙ c.enum_told.given.1))
 
-pub finds-spec : {M : Type 1} → statement M
-finds-spec = tie.close (tie.spec (λ c. search rules) (λ c. search rules) (λ c. search rules) returns (λ c κs. search rules) (λ c. search rules) (λ c. search rules) returns-2 returns-3)
+pub finds_spec : {M : Type 1} → statement M
+finds_spec = tie.close (tie.spec (λ c. search rules) (λ c. search rules) (λ c. search rules) returns (λ c κs. search rules) (λ c. search rules) (λ c. search rules) returns-2 returns-3)

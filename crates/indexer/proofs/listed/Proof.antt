@@ -9,5 +9,5 @@ returns c = rw (eq-eqb _ _ c.if1.true)
 returns-2 : tie.Need-returns-2
 returns-2 c = rw (ne_eqb _ _ c.if1.false)
 
-pub listed-spec : {M : Type 1} → statement M
-listed-spec = tie.close (tie.spec returns returns-2)
+pub listed_spec : {M : Type 1} → statement M
+listed_spec = tie.close (tie.spec returns returns-2)

@@ -53,5 +53,5 @@ returns c =
     let e = numbers-none o.args.numbers.now l.loop.i c.loop-test.false in
     (omega (arith, l.loop.invariant.1, ap length e), sym (bytes-none _ _ _ e) ∙ l.loop.invariant.3)
 
-pub put-all-spec : {M : Type 1} → statement M
-put-all-spec = tie.close (tie.spec invariant-loop decreases-loop loop-holds (λ c. search rules) (λ c. search rules) put-requires (λ c. search rules) (λ c. search rules) loop-again same_length returns)
+pub put_all_spec : {M : Type 1} → statement M
+put_all_spec = tie.close (tie.spec invariant-loop decreases-loop loop-holds (λ c. search rules) (λ c. search rules) put-requires (λ c. search rules) (λ c. search rules) loop-again same_length returns)

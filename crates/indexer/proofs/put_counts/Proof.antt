@@ -55,5 +55,5 @@ returns c =
     let e = counts-none o.args.words.now l.loop.left l.loop.at c.loop-test.false in
     (omega (arith, l.loop.invariant.1, ap length e), sym (bytes-none _ _ _ e) ∙ l.loop.invariant.3)
 
-pub put-counts-spec : {M : Type 1} → statement M
-put-counts-spec = tie.close (tie.spec invariant-loop decreases-loop loop-holds (λ c. search rules) (λ c. search rules) (λ c. search rules) (λ c κs. search rules) put-requires (λ c. search rules) (λ c. search rules) (λ c. search rules) loop-again same_length returns)
+pub put_counts_spec : {M : Type 1} → statement M
+put_counts_spec = tie.close (tie.spec invariant-loop decreases-loop loop-holds (λ c. search rules) (λ c. search rules) (λ c. search rules) (λ c κs. search rules) put-requires (λ c. search rules) (λ c. search rules) (λ c. search rules) loop-again same_length returns)

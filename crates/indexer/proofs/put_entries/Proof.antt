@@ -56,5 +56,5 @@ returns c =
     let a = l.before.before.before.args in
     sym (bytes-none _ _ _ (formed-none a.owners.now a.words.now l.loop.i l.loop.left l.loop.at c.loop-test.false)) ∙ l.loop.invariant.3
 
-pub put-entries-spec : {M : Type 1} → statement M
-put-entries-spec = tie.close (tie.spec invariant-loop decreases-loop loop-holds (λ c. search rules) (λ c. search rules) put-entry-requires (λ c. search rules) (λ c. search rules) (λ c. search rules) (λ c. search rules) loop-again same_length returns)
+pub put_entries_spec : {M : Type 1} → statement M
+put_entries_spec = tie.close (tie.spec invariant-loop decreases-loop loop-holds (λ c. search rules) (λ c. search rules) put-entry-requires (λ c. search rules) (λ c. search rules) (λ c. search rules) (λ c. search rules) loop-again same_length returns)

@@ -35,5 +35,5 @@ returns-2 c =
     let e = ap (flat form) m.entry_of.ensures ∙ sym (mine-one a.owner (event_at a.words.now a.at) m.before.if1.false) in
     (p.put_all_lem.ensures.0 ∙ ap (λ bs. a.to + length bs) e, p.put_all_lem.ensures.1 ∙ ap (laid a.bytes.now a.to) e)
 
-pub put-entry-spec : {M : Type 1} → statement M
-put-entry-spec = tie.close (tie.spec returns (λ c κs. search rules) (λ c. search rules) put-all-requires same_length returns-2)
+pub put_entry_spec : {M : Type 1} → statement M
+put_entry_spec = tie.close (tie.spec returns (λ c κs. search rules) (λ c. search rules) put-all-requires same_length returns-2)

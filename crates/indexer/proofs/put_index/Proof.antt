@@ -73,5 +73,5 @@ returns c =
     parts-laid (parts a.words.now a.capacities a.t3 a.owners.now _ _ _ _ w.before.wide.ensures (w.wide2.ensures ∙ o.requires.0.1) q.before.area-at.ensures.0 q.area-at2.ensures.0)
     a.bytes.now _ _ _ _ _ _ _ h.put_all_lem.ensures.1 h.put_all_lem.ensures.0 k.put-counts.ensures.1 k.put-counts.ensures.0 j.put-all2.ensures.1 j.put-all2.ensures.0 i.put_entries.ensures
 
-pub put-index-spec : {M : Type 1} → statement M
-put-index-spec = tie.close (tie.spec (λ c κs. search rules) (λ c κs. search rules) (λ c. search rules) (λ c κs. search rules) (λ c κs. search rules) (λ c. search rules) put-all-requires (λ c. search rules) put-counts-requires (λ c. search rules) put-all-requires-2 (λ c. search rules) put-entries-requires same_length returns)
+pub put_index_spec : {M : Type 1} → statement M
+put_index_spec = tie.close (tie.spec (λ c κs. search rules) (λ c κs. search rules) (λ c. search rules) (λ c κs. search rules) (λ c κs. search rules) (λ c. search rules) put-all-requires (λ c. search rules) put-counts-requires (λ c. search rules) put-all-requires-2 (λ c. search rules) put-entries-requires same_length returns)

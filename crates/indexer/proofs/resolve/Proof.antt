@@ -68,5 +68,5 @@ returns c =
     let a = o.args in
     sym (l.loop.invariant.2 ∙ resolved-none a.words.now a.capacities a.t3 o.requires.0 o.requires.1 _ _ _ _ c.loop-test.false)
 
-pub resolve-spec : {M : Type 1} → statement M
-resolve-spec = tie.close (tie.spec invariant-loop decreases-loop (λ c κs. search rules) (λ c. search rules) (λ c κs. search rules) loop-holds (λ c. search rules) (λ c. search rules) (λ c κs. search rules) finds-requires (λ c. search rules) (λ c. search rules) (λ c κs. search rules) (λ c. search rules) (λ c. search rules) (λ c. search rules) (λ c. search rules) (λ c. search rules) (λ c. search rules) loop-again returns)
+pub resolve_spec : {M : Type 1} → statement M
+resolve_spec = tie.close (tie.spec invariant-loop decreases-loop (λ c κs. search rules) (λ c. search rules) (λ c κs. search rules) loop-holds (λ c. search rules) (λ c. search rules) (λ c κs. search rules) finds-requires (λ c. search rules) (λ c. search rules) (λ c κs. search rules) (λ c. search rules) (λ c. search rules) (λ c. search rules) (λ c. search rules) (λ c. search rules) (λ c. search rules) loop-again returns)

@@ -39,5 +39,5 @@ returns c =
     let o = l.before.before in
     omega (arith, l.loop.invariant.1, ap length (numbers-none o.args.numbers.now l.loop.i c.loop-test.false))
 
-pub size-all-spec : {M : Type 1} → statement M
-size-all-spec = tie.close (tie.spec invariant-loop decreases-loop loop-holds (λ c. search rules) (λ c. search rules) (λ c κs. search rules) add-n (λ c. search rules) (λ c. search rules) loop-again returns)
+pub size_all_spec : {M : Type 1} → statement M
+size_all_spec = tie.close (tie.spec invariant-loop decreases-loop loop-holds (λ c. search rules) (λ c. search rules) (λ c κs. search rules) add-n (λ c. search rules) (λ c. search rules) loop-again returns)

@@ -42,5 +42,5 @@ returns c =
     let o = l.before.before in
     omega (arith, l.loop.invariant.1, ap length (counts-none o.args.words.now l.loop.left l.loop.at c.loop-test.false))
 
-pub size-counts-spec : {M : Type 1} → statement M
-size-counts-spec = tie.close (tie.spec invariant-loop decreases-loop loop-holds (λ c. search rules) (λ c. search rules) (λ c. search rules) (λ c κs. search rules) (λ c κs. search rules) add-n (λ c. search rules) (λ c. search rules) (λ c. search rules) loop-again returns)
+pub size_counts_spec : {M : Type 1} → statement M
+size_counts_spec = tie.close (tie.spec invariant-loop decreases-loop loop-holds (λ c. search rules) (λ c. search rules) (λ c. search rules) (λ c κs. search rules) (λ c κs. search rules) add-n (λ c. search rules) (λ c. search rules) (λ c. search rules) loop-again returns)

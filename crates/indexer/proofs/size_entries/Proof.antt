@@ -59,5 +59,5 @@ returns c =
       sized = omega (arith, l.loop.invariant.2, ap length (formed-none a.owners.now a.words.now l.loop.i l.loop.left l.loop.at c.loop-test.false));
     }
 
-pub size-entries-spec : {M : Type 1} → statement M
-size-entries-spec = tie.close (tie.spec invariant-loop decreases-loop loop-holds (λ c. search rules) (λ c. search rules) (λ c κs. search rules) add-entries (λ c. search rules) (λ c. search rules) (λ c κs. search rules) add-bytes (λ c. search rules) (λ c. search rules) (λ c. search rules) (λ c. search rules) loop-again returns)
+pub size_entries_spec : {M : Type 1} → statement M
+size_entries_spec = tie.close (tie.spec invariant-loop decreases-loop loop-holds (λ c. search rules) (λ c. search rules) (λ c κs. search rules) add-entries (λ c. search rules) (λ c. search rules) (λ c κs. search rules) add-bytes (λ c. search rules) (λ c. search rules) (λ c. search rules) (λ c. search rules) loop-again returns)

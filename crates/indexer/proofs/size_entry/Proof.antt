@@ -16,5 +16,5 @@ returns-2 c =
     let e = c.before.before in
     c.size-all.ensures ∙ ap (λ ns. length (flat form ns)) e.entry_of.ensures ∙ ap length (sym (mine-one _ _ e.before.if1.false))
 
-pub size-entry-spec : {M : Type 1} → statement M
-size-entry-spec = tie.close (tie.spec returns (λ c κs. search rules) (λ c. search rules) (λ c κs. search rules) returns-2)
+pub size_entry_spec : {M : Type 1} → statement M
+size_entry_spec = tie.close (tie.spec returns (λ c κs. search rules) (λ c. search rules) (λ c κs. search rules) returns-2)

@@ -72,5 +72,5 @@ returns c =
     let s = parts-size (parts a.words.now a.capacities a.t3 a.owners.now _ _ _ _ w.before.wide.ensures (w.wide2.ensures ∙ m) q.before.area-at.ensures.0 q.area-at2.ensures.0) in
     (m, omega (arith, s, n.before.size-all.ensures, n.size-Counts.ensures, c.before.size-all2.ensures, e.size-entries.ensures.sized))
 
-pub size-index-spec : {M : Type 1} → statement M
-size-index-spec = tie.close (tie.spec (λ c κs. search rules) (λ c κs. search rules) (λ c. search rules) size-entries-requires (λ c. search rules) (λ c κs. search rules) (λ c κs. search rules) (λ c. search rules) (λ c κs. search rules) (λ c. search rules) size-counts-requires add-size (λ c. search rules) (λ c κs. search rules) add-size-2 add-size-3 returns)
+pub size_index_spec : {M : Type 1} → statement M
+size_index_spec = tie.close (tie.spec (λ c κs. search rules) (λ c κs. search rules) (λ c. search rules) size-entries-requires (λ c. search rules) (λ c κs. search rules) (λ c κs. search rules) (λ c. search rules) (λ c κs. search rules) (λ c. search rules) size-counts-requires add-size (λ c. search rules) (λ c κs. search rules) add-size-2 add-size-3 returns)

@@ -13,5 +13,5 @@ returns c =
 returns-2 : tie.Need-returns-2
 returns-2 c = rw c.owned.ensures
 
-pub templates-of-spec : {M : Type 1} → statement M
-templates-of-spec = tie.close (tie.spec returns (λ c κs. search rules) returns-2)
+pub templates_of_spec : {M : Type 1} → statement M
+templates_of_spec = tie.close (tie.spec returns (λ c κs. search rules) returns-2)

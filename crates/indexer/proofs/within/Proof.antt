@@ -34,5 +34,5 @@ returns-6 c =
     let i = c.before.before.before in
     rw (le-leb _ _ i.before.if1.false, le-leb _ _ i.if2.false, le-leb _ _ c.before.before.if3.false, le-leb _ _ c.before.if4.false, le-leb _ _ c.if5.false) (sym (and_true _))
 
-pub within-spec : {M : Type 1} → statement M
-within-spec = tie.close (tie.spec returns returns-2 returns-3 returns-4 returns-5 returns-6)
+pub within_spec : {M : Type 1} → statement M
+within_spec = tie.close (tie.spec returns returns-2 returns-3 returns-4 returns-5 returns-6)

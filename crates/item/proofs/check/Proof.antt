@@ -33,7 +33,7 @@ returns-2 c =
     let f = start_fits o.args.end o.args.offset o.requires.0 in
     (rw e at c.check-row.ensures) ∙ sym (ap verdict (items-row _ _ o.args.n o.args.offset _ (omega (arith, e, f))))
 
-pub check-spec : {M : Type 1} → statement M
-check-spec =
+pub check_spec : {M : Type 1} → statement M
+check_spec =
     tie.close (
     tie.spec (λ c κs. search rules) (λ c. search rules) sub-if1 (λ c κs. search rules) returns check-row-requires returns-2)

@@ -31,5 +31,5 @@ returns-2 c =
     ⊎_elim (λ w. rw (eq-eqb _ _ w.1.left)) (λ w. from_or (eqb a.offset 0) (leb a.temp a.offset) (le-leb _ _ w.left)) j.if1.branch in
     c.check.ensures ∙ sym (ap verdict (run_holds _ _ _ _ here))
 
-pub check-name-spec : {M : Type 1} → statement M
-check-name-spec = tie.close (tie.spec (λ c κs. search rules) returns (λ c κs. search rules) returns-2)
+pub check_name_spec : {M : Type 1} → statement M
+check_name_spec = tie.close (tie.spec (λ c κs. search rules) returns (λ c κs. search rules) returns-2)

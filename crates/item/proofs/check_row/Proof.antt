@@ -37,8 +37,8 @@ loop-again c =
 returns-2 : tie.Need-returns-2 invariant-loop decreases-loop
 returns-2 c = sym (c.before.loop.invariant.1 ∙ many-none _ (step 20) _ _ _ c.loop-test.false)
 
-pub check-row-spec : {M : Type 1} → statement M
-check-row-spec =
+pub check_row_spec : {M : Type 1} → statement M
+check_row_spec =
     tie.close (
     tie.spec invariant-loop decreases-loop (λ c. (search rules, refl)) (λ c. search rules) (λ c κs. search rules) (λ c κs. search rules) (λ c. search rules) returns
     (λ c. search rules) (λ c. search rules) (λ c. search rules) (λ c. search rules) loop-again returns-2)

@@ -8,5 +8,5 @@ returns : tie.Need-returns
 unfolding alike
 returns c = simp (and_true, and_assoc)
 
-pub has-key-spec : {M : Type 1} → statement M
-has-key-spec = tie.close (tie.spec returns)
+pub has_key_spec : {M : Type 1} → statement M
+has_key_spec = tie.close (tie.spec returns)

@@ -45,8 +45,8 @@ returns-3 c =
     let t = p.before.before.before in
     (rw (accepted t.before.before.before t.if2.false).1 at p.put-accepted.ensures.0, p.put-accepted.ensures.1)
 
-pub list-spec : {M : Type 1} → statement M
-list-spec =
+pub list_spec : {M : Type 1} → statement M
+list_spec =
     tie.close
     (tie.spec
     (λ c. search rules)

@@ -11,6 +11,6 @@ returns c =
     let b = t.before.before.before.before in
     (put_behind b.put-block.ensures.0 t.put-templates.ensures.0, omega (arith, t.put-templates.ensures.1, b.put-block.ensures.1))
 
-pub put-accepted-spec : {M : Type 1} → statement M
-put-accepted-spec =
+pub put_accepted_spec : {M : Type 1} → statement M
+put_accepted_spec =
     tie.close (tie.spec (λ c κs. search rules) (λ c. search rules) (λ c κs. search rules) (λ c. search rules) returns)

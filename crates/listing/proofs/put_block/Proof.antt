@@ -14,8 +14,8 @@ returns c =
     let i = j.before.before in
     (rw (i.wide.ensures, j.wide2.ensures, k.wide3.ensures) at p.put-line.ensures.0, p.put-line.ensures.1)
 
-pub put-block-spec : {M : Type 1} → statement M
-put-block-spec =
+pub put_block_spec : {M : Type 1} → statement M
+put_block_spec =
     tie.close
     (tie.spec
     (λ c. search rules)

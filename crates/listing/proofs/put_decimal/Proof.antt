@@ -21,8 +21,8 @@ returns c =
       omega (arith, p.put.ensures.ends, e.0.1, twenty n.args.n d.decimal.result (omega arith) e.1.0),
     )
 
-pub put-decimal-spec : {M : Type 1} → statement M
-put-decimal-spec =
+pub put_decimal_spec : {M : Type 1} → statement M
+put_decimal_spec =
     tie.close
     (tie.spec
     (λ c κs. search rules)

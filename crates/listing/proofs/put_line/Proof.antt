@@ -16,8 +16,8 @@ returns c =
       omega (arith, e.put.ensures.ends),
     )
 
-pub put-line-spec : {M : Type 1} → statement M
-put-line-spec =
+pub put_line_spec : {M : Type 1} → statement M
+put_line_spec =
     tie.close
     (tie.spec
     (λ c κs. search rules)

@@ -11,5 +11,5 @@ returns c =
     let p = d.before.before.before.before in
     (put_behind p.put.ensures d.put-decimal.ensures.0, omega (arith, p.put.ensures.ends))
 
-pub put-number-spec : {M : Type 1} → statement M
-put-number-spec = tie.close (tie.spec (λ c κs. search rules) (λ c κs. search rules) (λ c. search rules) returns)
+pub put_number_spec : {M : Type 1} → statement M
+put_number_spec = tie.close (tie.spec (λ c κs. search rules) (λ c κs. search rules) (λ c. search rules) returns)

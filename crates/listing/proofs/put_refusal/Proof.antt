@@ -16,8 +16,8 @@ returns c =
       omega (arith, e.put.ensures.ends),
     )
 
-pub put-refusal-spec : {M : Type 1} → statement M
-put-refusal-spec =
+pub put_refusal_spec : {M : Type 1} → statement M
+put_refusal_spec =
     tie.close
     (tie.spec
     (λ c. search rules)

@@ -20,8 +20,8 @@ returns c =
       omega (arith, n.put-number.ensures.1, p.put-line.ensures.1),
     )
 
-pub put-template-spec : {M : Type 1} → statement M
-put-template-spec =
+pub put_template_spec : {M : Type 1} → statement M
+put_template_spec =
     tie.close (
     tie.spec
     (λ c. search rules) (λ c. search rules) (λ c. search rules) (λ c. search rules) (λ c κs. search rules) (λ c κs. search rules)

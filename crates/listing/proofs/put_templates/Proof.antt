@@ -59,8 +59,8 @@ returns c =
     let m = c.before in
     (m.loop.invariant.3 _ _ (rw (lines_none m.before.before.before.before.args.words.now m.loop.left m.loop.from (omega arith)) put_none), omega arith)
 
-pub put-templates-spec : {M : Type 1} → statement M
-put-templates-spec =
+pub put_templates_spec : {M : Type 1} → statement M
+put_templates_spec =
     tie.close
     (tie.spec
     invariant-loop

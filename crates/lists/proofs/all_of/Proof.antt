@@ -56,8 +56,8 @@ returns-2 c =
     ∙ l.loop.invariant.1
     ∙ every-none (owner a.provider) a.words.now (width TEMPLATES) _ _ c.loop-test.false)
 
-pub all-of-spec : {M : Type 1} → statement M
-all-of-spec =
+pub all_of_spec : {M : Type 1} → statement M
+all_of_spec =
     tie.close
     (tie.spec
     invariant-loop

@@ -28,8 +28,8 @@ loop-again c =
 returns-2 : tie.Need-returns-2 invariant-loop decreases-loop
 returns-2 c = λ i h. c.before.loop.invariant.1 i (omega arith)
 
-pub all-owned-spec : {M : Type 1} → statement M
-all-owned-spec =
+pub all_owned_spec : {M : Type 1} → statement M
+all_owned_spec =
     tie.close
     (tie.spec
     invariant-loop

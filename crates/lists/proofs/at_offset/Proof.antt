@@ -20,5 +20,5 @@ returns c =
     c.find.ensures
     ∙ ap found (position-same (has TEMPLATE_OFFSET (x ∷ [])) (λ t. eqb (word_of TEMPLATE_OFFSET t) x) o.args.words.now (width TEMPLATES) _ _ _ (omega arith) (λ e l. has_one TEMPLATE_OFFSET x e (omega arith)))
 
-pub at-offset-spec : {M : Type 1} → statement M
-at-offset-spec = tie.close (tie.spec (λ c. search rules) (λ c κs. search rules) returns)
+pub at_offset_spec : {M : Type 1} → statement M
+at_offset_spec = tie.close (tie.spec (λ c. search rules) (λ c κs. search rules) returns)

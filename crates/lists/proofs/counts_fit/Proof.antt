@@ -20,5 +20,5 @@ returns-2 c =
     let a = c.before.before.before.args in
     ap fine (sym c.enum-told2.given.1 ∙ c.before.before.room.ensures) ∙ room_fits rows a.c a.capacities (omega arith) (omega arith)
 
-pub counts-fit-spec : {M : Type 1} → statement M
-counts-fit-spec = tie.close (tie.spec (λ c κs. search rules) enum_told (λ c. search rules) returns returns-2)
+pub counts_fit_spec : {M : Type 1} → statement M
+counts_fit_spec = tie.close (tie.spec (λ c κs. search rules) enum_told (λ c. search rules) returns returns-2)

@@ -38,8 +38,8 @@ returns-3 c =
     let h = fits a.words.now a.capacities a.counts (sym f.fit.ensures ∙ t.before.enum_told.given.1) in
     rw (c.own.ensures, h.0, h.1, sym t.tables-fit.ensures ∙ c.before.if1.false)
 
-pub fit-together-spec : {M : Type 1} → statement M
-fit-together-spec =
+pub fit_together_spec : {M : Type 1} → statement M
+fit_together_spec =
     tie.close
     (tie.spec
     (λ c κs. search rules)

@@ -16,8 +16,8 @@ returns-3 c = simp (lt-ltb _ _ c.before.before.if1.false, le-leb _ _ c.before.if
 returns-4 : tie.Need-returns-4
 returns-4 c = simp (lt-ltb _ _ c.before.before.before.if1.false, le-leb _ _ c.before.before.if2.false, le-leb _ _ c.before.if3.false, c.row_of.ensures.0)
 
-pub in-lists-spec : {M : Type 1} → statement M
-in-lists-spec =
+pub in_lists_spec : {M : Type 1} → statement M
+in_lists_spec =
     tie.close
     (tie.spec
     (λ c. search rules)

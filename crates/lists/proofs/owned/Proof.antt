@@ -59,8 +59,8 @@ returns-2 c =
     c.range_at.ensures
     ∙ rw (c.before.entry_at.ensures, ap (λ r. r.start) f.before.before.run_of.ensures, s.area-at.ensures.0 ∙ ap (λ i. areas rows (take i a.capacities)) s.before.row_of.ensures.0, (table-found a.words.now a.capacities a.counts o.requires.0 a.provider a.kind _ e).0)
 
-pub owned-spec : {M : Type 1} → statement M
-owned-spec =
+pub owned_spec : {M : Type 1} → statement M
+owned_spec =
     tie.close
     (tie.spec
     (λ c κs. search rules)

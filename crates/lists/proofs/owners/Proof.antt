@@ -80,8 +80,8 @@ returns-2 c =
     rw (← l.before.area-at.ensures.0)
     (settled _ (of EVENTS a.t3) l.loop.owners l.loop.invariant.1 (λ i h. rw e at (l.loop.invariant.3 i (omega arith)) ∙ append-nil (given l.loop.owners i)) c.all-owned.result c.all-owned.ensures)
 
-pub owners-spec : {M : Type 1} → statement M
-owners-spec =
+pub owners_spec : {M : Type 1} → statement M
+owners_spec =
     tie.close
     (tie.spec
     invariant-loop

@@ -6,5 +6,5 @@ use Rattle.lists.proofs.range_at.Tie as tie
 returns : tie.Need-returns
 returns c = rw (c.before.table-word.ensures, c.table-word2.ensures)
 
-pub range-at-spec : {M : Type 1} → statement M
-range-at-spec = tie.close (tie.spec (λ c κs. search rules) (λ c κs. search rules) returns)
+pub range_at_spec : {M : Type 1} → statement M
+range_at_spec = tie.close (tie.spec (λ c κs. search rules) (λ c κs. search rules) returns)

@@ -6,5 +6,5 @@ use Rattle.lists.proofs.run_of.Tie as tie
 returns : tie.Need-returns
 returns c = rw c.area-at.ensures.0
 
-pub run-of-spec : {M : Type 1} → statement M
-run-of-spec = tie.close (tie.spec (λ c κs. search rules) (λ c. search rules) (λ c. search rules) returns)
+pub run_of_spec : {M : Type 1} → statement M
+run_of_spec = tie.close (tie.spec (λ c κs. search rules) (λ c. search rules) (λ c. search rules) returns)

@@ -9,8 +9,8 @@ returns c =
     let w = c.before in
     c.in-lists.ensures ∙ rw (w.before.before.before.table-word.ensures, w.before.before.table-word2.ensures, w.before.table-word3.ensures, w.table-word4.ensures)
 
-pub table-fits-spec : {M : Type 1} → statement M
-table-fits-spec =
+pub table_fits_spec : {M : Type 1} → statement M
+table_fits_spec =
     tie.close
     (tie.spec
     (λ c κs. search rules)

@@ -33,5 +33,5 @@ returns-2 c =
     let e = sym k.before.table-word.ensures ∙ k.if1.false in
     c.all_of.ensures ∙ rw (c.before.before.table-word2.ensures, c.before.range_at.ensures, eq-eqb (word_of TABLE_KIND t) TTBL e, range-entries a.words.now a.templates o.requires.1.0 t (o.requires.1.1 e))
 
-pub table-owns-spec : {M : Type 1} → statement M
-table-owns-spec = tie.close (tie.spec (λ c κs. search rules) returns (λ c κs. search rules) (λ c κs. search rules) all-of-requires returns-2)
+pub table_owns_spec : {M : Type 1} → statement M
+table_owns_spec = tie.close (tie.spec (λ c κs. search rules) returns (λ c κs. search rules) (λ c κs. search rules) all-of-requires returns-2)

@@ -12,5 +12,5 @@ returns c =
     let o = c.before in
     sym (word_at (width TABLES) o.args.words.now o.args.i o.args.at (omega arith))
 
-pub table-word-spec : {M : Type 1} → statement M
-table-word-spec = tie.close (tie.spec (λ c. search rules) (λ c. search rules) (λ c. search rules) returns)
+pub table_word_spec : {M : Type 1} → statement M
+table_word_spec = tie.close (tie.spec (λ c. search rules) (λ c. search rules) (λ c. search rules) returns)

@@ -81,8 +81,8 @@ returns-3 c =
     let a = l.before.before.before.before.args in
     sym (whole l.before ∙ l.loop.invariant.1 ∙ every-none _ a.words.now (width TABLES) _ _ c.loop-test.false)
 
-pub tables-fit-spec : {M : Type 1} → statement M
-tables-fit-spec =
+pub tables_fit_spec : {M : Type 1} → statement M
+tables_fit_spec =
     tie.close
     (tie.spec
     invariant-loop

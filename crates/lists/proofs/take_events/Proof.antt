@@ -37,8 +37,8 @@ returns-2 c =
     let l = c.before in
     (l.loop.invariant.0, λ i. l.loop.invariant.1 i ∙ take_none l.loop.owners l.before.args.provider _ _ c.loop-test.false i)
 
-pub take-events-spec : {M : Type 1} → statement M
-take-events-spec =
+pub take_events_spec : {M : Type 1} → statement M
+take_events_spec =
     tie.close
     (tie.spec
     invariant-loop

@@ -38,8 +38,8 @@ returns-3 c =
     let e : is_first a.seen.now t ≡ true = rw (← w.table-word.ensures, ← p.table-word2.ensures, eq-eqb _ _ p.before.if1.false, c.before.before.before.before.if2.false) in
     rw p.table-word2.ensures (taken a.owners.now a.seen.now t e c.take-events.new.0 c.take-events.result (rw (p.table-word2.ensures, c.before.before.table-word3.ensures, c.before.table-word4.ensures) at c.take-events.ensures))
 
-pub take-table-spec : {M : Type 1} → statement M
-take-table-spec =
+pub take_table_spec : {M : Type 1} → statement M
+take_table_spec =
     tie.close
     (tie.spec
     (λ c κs. search rules)

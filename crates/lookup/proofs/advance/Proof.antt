@@ -98,8 +98,8 @@ loop-again c =
     let h = subst (arrived a.words.now (run_of a.capacities a.counts (place TEMPLATES)) l.loop.providers) n.next.given.1 f.next-provider.ensures.1 in
     (h.0, l.loop.invariant.1 ∙ tells_over a.words.now r.run_of.result l.loop.templates a.key.now l.loop.marks l.loop.events _ _ x.next-new.ensures.0 _ r.run_of.ensures _ e.enum_told.given.1 ∙ come_to a.words.now a.capacities a.counts a.guid.now a.key.now l.loop.providers _ ∙ ap (new_at a.words.now a.capacities a.counts a.guid.now a.key.now _) (sym f.next-provider.ensures.0 ∙ n.next.given.1))
 
-pub advance-spec : {M : Type 1} → statement M
-advance-spec =
+pub advance_spec : {M : Type 1} → statement M
+advance_spec =
     tie.close
     (tie.spec
     invariant-loop

@@ -65,8 +65,8 @@ returns-5 c =
     let e = number-some a.words.now a.templates a.key.now a.at o.requires.0.1 (sym i.before.same.ensures ∙ not-false _ i.if1.false) t.before.if2.false in
     sym (ap (λ ns. unmarked a.marks.now (found ns)) e ∙ ap (unmarked a.marks.now) (sym t.at_offset.ensures ∙ n.n.given.1) ∙ rw c.if3.false)
 
-pub fresh-spec : {M : Type 1} → statement M
-fresh-spec =
+pub fresh_spec : {M : Type 1} → statement M
+fresh_spec =
     tie.close
     (tie.spec
     (λ c κs. search rules)

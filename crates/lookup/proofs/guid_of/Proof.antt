@@ -15,8 +15,8 @@ returns c =
     let e : (f + GUID) - f ≡ GUID = omega arith in
     ap₂ (λ m g. take m (drop (g + TEMPLATE_GUID) n.before.before.args.words.now)) e n.entry_at.ensures
 
-pub guid-of-spec : {M : Type 1} → statement M
-guid-of-spec =
+pub guid_of_spec : {M : Type 1} → statement M
+guid_of_spec =
     tie.close
     (tie.spec
     (λ c κs. search rules)

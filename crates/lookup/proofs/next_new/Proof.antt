@@ -74,8 +74,8 @@ returns-2 c =
     let a = c.before.before.before.before.args in
     (λ others. c.before.loop.invariant.1 others ∙ next-none a.words.now a.list a.templates a.key.now _ _ _ _ others c.loop-test.false, tt)
 
-pub next-new-spec : {M : Type 1} → statement M
-next-new-spec =
+pub next_new_spec : {M : Type 1} → statement M
+next_new_spec =
     tie.close
     (tie.spec
     invariant-loop

@@ -55,5 +55,5 @@ returns-2 c =
     let n = (position-found (has 0 a.guid.now) a.providers.first (entries (width PROVIDERS) a.providers a.words.now) _ g).0 in
     (ap cames.To w ∙ ap (came a.words.now a.capacities a.counts a.providers) (sym n), subst (λ v. arrived a.words.now (run_of a.capacities a.counts (place TEMPLATES)) a.providers (cames.To v)) (sym w) h.1)
 
-pub next-provider-spec : {M : Type 1} → statement M
-next-provider-spec = tie.close (tie.spec (λ c κs. search rules) (λ c. search rules) enum_told returns owned-requires owned-requires-2 behind-requires returns-2)
+pub next_provider_spec : {M : Type 1} → statement M
+next_provider_spec = tie.close (tie.spec (λ c κs. search rules) (λ c. search rules) enum_told returns owned-requires owned-requires-2 behind-requires returns-2)

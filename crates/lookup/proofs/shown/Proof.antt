@@ -14,5 +14,5 @@ returns c = ap shown (sym c.before.f.given.1)
 returns-2 : tie.Need-returns-2
 returns-2 c = ap shown (sym c.enum_told.given.1)
 
-pub shown-spec : {M : Type 1} → statement M
-shown-spec = tie.close (tie.spec (λ c. search rules) enum_told returns returns-2)
+pub shown_spec : {M : Type 1} → statement M
+shown_spec = tie.close (tie.spec (λ c. search rules) enum_told returns returns-2)

@@ -55,8 +55,8 @@ returns-3 c =
           ∙ sym (offset-found a.words.now a.capacities a.t3 _ _ _ _ (fits a.words.now a.capacities a.t3 (sym f.fit.ensures ∙ e.enum_told.given.1)) t.before.if1.false);
     }
 
-pub template-at-spec : {M : Type 1} → statement M
-template-at-spec =
+pub template_at_spec : {M : Type 1} → statement M
+template_at_spec =
     tie.close
     (tie.spec
     (λ c κs. search rules)

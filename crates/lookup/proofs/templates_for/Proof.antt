@@ -70,8 +70,8 @@ returns-4 c =
     let x = sym (key-room a.words.now a.capacities a.counts a.key a.guids.now v.before.if1.false t.0.0 t.0.1 t.1 ∙ ap (room_for a.guids.now) (key-given a.words.now a.capacities a.counts t.0.0 t.0.1 a.key _ (ap (next_provider a.words.now a.capacities a.counts (guid_words a.key.guid)) (sym r.run_of.ensures) ∙ sym f.next-provider.ensures.0 ∙ c.before.before.before.before.before.before.walk.given.1))) in
     record { answered = u.give.ensures.0 ∙ ap guids_found x; kept = u.give.ensures.1 ∙ ap (guids_held a.guids.now) x }
 
-pub templates-for-spec : {M : Type 1} → statement M
-templates-for-spec =
+pub templates_for_spec : {M : Type 1} → statement M
+templates_for_spec =
     tie.close
     (tie.spec
     (λ c. search rules)

@@ -63,8 +63,8 @@ returns-2 : tie.Need-returns-2 invariant-loop decreases-loop
 unfolding needs_all
 returns-2 c = sym (c.before.before.loop.invariant.2 ∙ ap (providers_read _) (none_left _ _ _ c.if1.false))
 
-pub check-spec : {M : Type 1} → statement M
-check-spec =
+pub check_spec : {M : Type 1} → statement M
+check_spec =
     tie.close
     (tie.spec
     invariant-loop

@@ -27,8 +27,8 @@ returns-2 c =
     let g : 16 + 20 * o.args.h.count ≤ length o.args.b.now = omega (arith, i.if1.false, o.requires.0) in
     c.check.ensures ∙ sym (ap (providers_read none) (array_whole o.args.h o.args.b.now g))
 
-pub check-block-spec : {M : Type 1} → statement M
-check-block-spec =
+pub check_block_spec : {M : Type 1} → statement M
+check_block_spec =
     tie.close
     (tie.spec
     (λ c. search rules)

@@ -49,8 +49,8 @@ returns-3 c =
     let x = block-headed o.args.bytes.now (omega (arith, k.before.if1.false)) _ (is_header (run header o.args.bytes.now) _ (sym d.h.given.1 ∙ k.header.ensures)) in
     record { answered = c.needs-block.ensures ∙ ap needing (sym x) }
 
-pub needs-spec : {M : Type 1} → statement M
-needs-spec =
+pub needs_spec : {M : Type 1} → statement M
+needs_spec =
     tie.close
     (tie.spec
     (λ c κs. search rules)

@@ -34,8 +34,8 @@ returns-2 c =
     rw (block-done o.args.h o.args.b.now x.0 x.1)
     (c.accept.ensures ∙ ap (λ (n : List ℕ). record { code = 0; field = 0; place = 0; first = o.args.h.size; second = o.args.h.major + 65536 * o.args.h.minor; counts = n }) (x.2 ∙ needed x.0))
 
-pub needs-block-spec : {M : Type 1} → statement M
-needs-block-spec =
+pub needs_block_spec : {M : Type 1} → statement M
+needs_block_spec =
     tie.close
     (tie.spec
     (λ c κs. search rules)

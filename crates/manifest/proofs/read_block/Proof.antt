@@ -32,8 +32,8 @@ store-requires c κs =
     let y = array-done o.args.h o.args.b.now x.0 x.1 in
     ((y.0, o.requires.1), (ap verdict y.1, (x.2 ∙ ap (λ z. needs_all none (values z)) (sym y.1), o.requires.2)))
 
-pub read-block-spec : {M : Type 1} → statement M
-read-block-spec =
+pub read_block_spec : {M : Type 1} → statement M
+read_block_spec =
     tie.close
     (tie.spec
     (λ c κs. search rules)

@@ -31,8 +31,8 @@ returns-3 c =
     c.counted.ensures
     ∙ sym (ap maps_read (maps-listed _ _ _ _ (sym e.end.given.1 ∙ e.before.before.region-end.ensures) (omega arith)))
 
-pub check-spec : {M : Type 1} → statement M
-check-spec =
+pub check_spec : {M : Type 1} → statement M
+check_spec =
     tie.close
     (tie.spec
     (λ c κs. search rules)

@@ -33,8 +33,8 @@ returns-2 c =
     let f = sym e.end.given.1 ∙ r.region-end.ensures in
     rw (maps-listed _ _ _ _ f (maps-room _ _ _ _ f (omega arith) r.before.before.before.requires.1.0)) c.before.before.put-map-entries.ensures
 
-pub fill-entries-spec : {M : Type 1} → statement M
-fill-entries-spec =
+pub fill_entries_spec : {M : Type 1} → statement M
+fill_entries_spec =
     tie.close
     (tie.spec
     (λ c κs. search rules)

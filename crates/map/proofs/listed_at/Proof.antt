@@ -12,7 +12,7 @@ returns c = c.map_at.ensures ∙ sym (ap map_read (listed-first _ _ _ _ _ c.befo
 returns-2 : tie.Need-returns-2
 returns-2 c = c.map-at2.ensures ∙ sym (ap map_read (listed-word _ _ _ _ _ _ c.before.before.if1.false c.before.word.ensures))
 
-pub listed-at-spec : {M : Type 1} → statement M
-listed-at-spec =
+pub listed_at_spec : {M : Type 1} → statement M
+listed_at_spec =
     tie.close
     (tie.spec (λ c κs. search rules) returns (λ c κs. search rules) (λ c. search rules) (λ c κs. search rules) returns-2)

@@ -24,8 +24,8 @@ returns-4 c =
     ap read.Map c.other-map.ensures
     ∙ sym (ap map_read (map_other _ _ _ _ w.before.word.ensures (omega arith) w.if3.false))
 
-pub map-at-spec : {M : Type 1} → statement M
-map-at-spec =
+pub map_at_spec : {M : Type 1} → statement M
+map_at_spec =
     tie.close
     (tie.spec
     (λ c κs. search rules)

@@ -25,5 +25,5 @@ returns-2 c =
     let n = c.before.before.before in
     sym (ap (named_map _ _ _ _) (name-until blob_end _ _ _ ∙ refused-value _ _ (sym c.before.r.given.1 ∙ n.check.ensures)))
 
-pub named-map-spec : {M : Type 1} → statement M
-named-map-spec = tie.close (tie.spec (λ c κs. search rules) enum_told name-of-requires (λ c κs. search rules) (λ c. search rules) returns returns-2)
+pub named_map_spec : {M : Type 1} → statement M
+named_map_spec = tie.close (tie.spec (λ c κs. search rules) enum_told name-of-requires (λ c κs. search rules) (λ c. search rules) returns returns-2)

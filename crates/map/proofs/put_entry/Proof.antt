@@ -6,8 +6,8 @@ use Rattle.map.proofs.put_entry.Tie as tie
 returns : tie.Need-returns
 returns c = rw (← c.before.before.before.before.before.before.word.ensures, ← c.before.before.before.before.before.word2.ensures) c.before.before.put.ensures
 
-pub put-entry-spec : {M : Type 1} → statement M
-put-entry-spec =
+pub put_entry_spec : {M : Type 1} → statement M
+put_entry_spec =
     tie.close
     (tie.spec
     (λ c κs. search rules)

@@ -10,6 +10,6 @@ returns c =
     let q = p.before.before.before.before in
     rw (← q.pick.ensures, ended-cast q.before.before.args.m.name) p.put.ensures
 
-pub put-map-spec : {M : Type 1} → statement M
-put-map-spec =
+pub put_map_spec : {M : Type 1} → statement M
+put_map_spec =
     tie.close (tie.spec (λ c κs. search rules) (λ c. search rules) (λ c. search rules) (λ c κs. search rules) (λ c. search rules) returns)

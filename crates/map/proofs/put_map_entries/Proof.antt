@@ -85,8 +85,8 @@ returns-2 c =
       sym (inv.4 ∙ fill_none (listed_at _ _ _) (step 4) entries_words _ _ _ _ _ refl h),
     )
 
-pub put-map-entries-spec : {M : Type 1} → statement M
-put-map-entries-spec =
+pub put_map_entries_spec : {M : Type 1} → statement M
+put_map_entries_spec =
     tie.close
     (tie.spec
     invariant-loop

@@ -81,8 +81,8 @@ returns-2 c =
       sym (inv.5 ∙ fill_none (listed_at _ _ _) (step 4) (maps_words _) _ _ _ _ _ refl h),
     )
 
-pub put-maps-spec : {M : Type 1} → statement M
-put-maps-spec =
+pub put_maps_spec : {M : Type 1} → statement M
+put_maps_spec =
     tie.close
     (tie.spec
     invariant-loop

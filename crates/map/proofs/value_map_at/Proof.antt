@@ -31,8 +31,8 @@ returns-5 c =
     c.named-map.ensures
     ∙ sym (value-named _ _ _ _ z.word.ensures (omega arith) (omega arith) (omega arith) _ _ v.before.word2.ensures v.word3.ensures (omega arith) (omega arith))
 
-pub value-map-at-spec : {M : Type 1} → statement M
-value-map-at-spec =
+pub value_map_at_spec : {M : Type 1} → statement M
+value_map_at_spec =
     tie.close
     (tie.spec
     (λ c. search rules)

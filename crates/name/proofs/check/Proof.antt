@@ -15,5 +15,5 @@ returns c = rw c.if1.true
 returns-2 : tie.Need-returns-2
 returns-2 c = c.check-sized.ensures ∙ sym (ap verdict (present _ _ _ _ c.before.if1.false))
 
-pub check-spec : {M : Type 1} → statement M
-check-spec = tie.close (tie.spec returns (λ c κs. search rules) returns-2)
+pub check_spec : {M : Type 1} → statement M
+check_spec = tie.close (tie.spec returns (λ c κs. search rules) returns-2)

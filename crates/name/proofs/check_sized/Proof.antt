@@ -43,8 +43,8 @@ returns-7 c =
     let w = u.before.before.before.before in
     sym (ap verdict (sized-text _ _ _ _ _ w.word.ensures (omega arith) (omega arith) (omega arith) u.before.if5.false ∙ u.units.ensures) ∙ rw (le-leb _ _ c.if6.false))
 
-pub check-sized-spec : {M : Type 1} → statement M
-check-sized-spec =
+pub check_sized_spec : {M : Type 1} → statement M
+check_sized_spec =
     tie.close
     (tie.spec
     (λ c κs. search rules)

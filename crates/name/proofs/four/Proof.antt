@@ -22,8 +22,8 @@ returns-2 c =
       c.less4.ensures.0 ∙ ap below c.before.half4.ensures,
     )
 
-pub four-spec : {M : Type 1} → statement M
-four-spec =
+pub four_spec : {M : Type 1} → statement M
+four_spec =
     tie.close
     (tie.spec
     returns

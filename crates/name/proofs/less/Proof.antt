@@ -8,5 +8,5 @@ use Rattle.name.proofs.less.Tie as tie
 returns : tie.Need-returns
 returns c = (less _ (omega arith), omega arith)
 
-pub less-spec : {M : Type 1} → statement M
-less-spec = tie.close (tie.spec (λ c. search rules) returns)
+pub less_spec : {M : Type 1} → statement M
+less_spec = tie.close (tie.spec (λ c. search rules) returns)

@@ -39,7 +39,7 @@ returns-2 c =
     let found = (sized-fine _ _ _ _ _ w.word.ensures w.before.if1.false v).2 ∙ c.units.ensures in
     found ∙ texted-fine _ _ _ _ (sym (ap verdict found) ∙ v)
 
-pub name-of-spec : {M : Type 1} → statement M
-name-of-spec =
+pub name_of_spec : {M : Type 1} → statement M
+name_of_spec =
     tie.close
     (tie.spec (λ c κs. search rules) returns word-requires sub-n units-requires add-t8 returns-2)

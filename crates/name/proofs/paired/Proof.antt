@@ -20,5 +20,5 @@ returns-4 c =
     let h = c.before in
     rw (← h.before.before.before.before.requires.1, lt-ltb _ _ h.before.before.if1.false, lt-ltb _ _ h.before.if2.false, ← h.half.ensures, le-leb _ _ c.if3.false)
 
-pub paired-spec : {M : Type 1} → statement M
-paired-spec = tie.close (tie.spec returns returns-2 (λ c. search rules) (λ c κs. search rules) returns-3 returns-4)
+pub paired_spec : {M : Type 1} → statement M
+paired_spec = tie.close (tie.spec returns returns-2 (λ c. search rules) (λ c κs. search rules) returns-3 returns-4)

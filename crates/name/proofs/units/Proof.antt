@@ -98,8 +98,8 @@ returns-3 c =
     let l = c.before in
     l.loop2.invariant.2 ∙ text-none _ _ _ _ _ _ l.before.before.before.before.before.args.n (omega arith) c.loop2-test.false
 
-pub units-spec : {M : Type 1} → statement M
-units-spec =
+pub units_spec : {M : Type 1} → statement M
+units_spec =
     tie.close
     (tie.spec
     invariant-loop

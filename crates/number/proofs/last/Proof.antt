@@ -14,5 +14,5 @@ returns-2 c = rw (le-leb _ _ c.before.if1.false, c.if2.true)
 returns-3 : tie.Need-returns-3
 returns-3 c = rw (le-leb _ _ c.before.if1.false, c.if2.false)
 
-pub last-spec : {M : Type 1} → statement M
-last-spec = tie.close (tie.spec returns returns-2 returns-3)
+pub last_spec : {M : Type 1} → statement M
+last_spec = tie.close (tie.spec returns returns-2 returns-3)

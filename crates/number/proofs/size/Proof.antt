@@ -38,5 +38,5 @@ returns c =
     let e = ap length (left-last _ _ h.1 (omega arith)) in
     omega (arith, h.2, e)
 
-pub size-spec : {M : Type 1} → statement M
-size-spec = tie.close (tie.spec invariant-loop decreases-loop loop-holds add-n loop-less loop-again returns)
+pub size_spec : {M : Type 1} → statement M
+size_spec = tie.close (tie.spec invariant-loop decreases-loop loop-holds add-n loop-less loop-again returns)

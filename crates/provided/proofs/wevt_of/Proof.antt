@@ -34,8 +34,8 @@ returns c =
     let f = c.before.before.before.before in
     rw (c.word5.ensures, c.before.word4.ensures, c.before.before.word3.ensures, c.before.before.before.word2.ensures, f.word.ensures) (header-words _ _ f.before.before.requires.1)
 
-pub wevt-of-spec : {M : Type 1} → statement M
-wevt-of-spec =
+pub wevt_of_spec : {M : Type 1} → statement M
+wevt_of_spec =
     tie.close
     (tie.spec
     (λ c. search rules)

@@ -88,8 +88,8 @@ returns-6 c =
     (had_room _ _ _ (sym d.before.enum_told.given.1 ∙ a.whole.ensures)) (sym d.check-descriptors.ensures ∙ f.enum-told2.given.1)
     (had_room _ _ _ (sym e.before.enum-told3.given.1 ∙ u.whole2.ensures)) _ _ e.check.ensures c.before.before.enum-told4.given.1
 
-pub check-spec : {M : Type 1} → statement M
-check-spec =
+pub check_spec : {M : Type 1} → statement M
+check_spec =
     tie.close
     (tie.spec
     (λ c. search rules)

@@ -40,8 +40,8 @@ loop-again c =
     let m = w.before in
     (omega arith, m.before.loop.invariant.1 ∙ many_more descriptor_at (step 8) _ _ _ _ m.loop-test.true (descriptor_found _ _ _ w.word.ensures (omega arith)))
 
-pub check-descriptors-spec : {M : Type 1} → statement M
-check-descriptors-spec =
+pub check_descriptors_spec : {M : Type 1} → statement M
+check_descriptors_spec =
     tie.close
     (tie.spec
     invariant-loop

@@ -22,8 +22,8 @@ loop-again c =
     let more = furthest-more m.before.before.before.args.b.now l.left l.at m.loop-test.true in
     (omega arith, ⊎_elim (λ w. omega arith) (λ w. omega arith) c.if1.branch)
 
-pub furthest-spec : {M : Type 1} → statement M
-furthest-spec =
+pub furthest_spec : {M : Type 1} → statement M
+furthest_spec =
     tie.close
     (tie.spec
     invariant-loop

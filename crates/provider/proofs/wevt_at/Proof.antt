@@ -22,8 +22,8 @@ returns-4 c =
     answer-found read.Wevt read.Refused _ _ _ (rw (c.word5.ensures, u.word4.ensures, d.word3.ensures, m.word2.ensures))
     (wevt_found _ _ (omega arith) (sym t.before.word.ensures ∙ t.if3.false))
 
-pub wevt-at-spec : {M : Type 1} → statement M
-wevt-at-spec =
+pub wevt_at_spec : {M : Type 1} → statement M
+wevt_at_spec =
     tie.close
     (tie.spec
     (λ c κs. search rules)

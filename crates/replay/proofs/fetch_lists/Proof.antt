@@ -14,8 +14,8 @@ invariant-loop told words₀ from₀ row₀ words from row = (from ≤ 64 * WIDE
 abbrev decreases-loop : tie.decreases-loop
 decreases-loop told words₀ from₀ row₀ words from row = AREAS - row
 
-pub fetch-lists-spec : {M : Type 1} → statement M
-fetch-lists-spec =
+pub fetch_lists_spec : {M : Type 1} → statement M
+fetch_lists_spec =
     tie.close
     (tie.spec
     invariant-loop

@@ -11,8 +11,8 @@ invariant-loop w all₀ i₀ all i = i ≤ 5 + AREAS
 abbrev decreases-loop : tie.decreases-loop
 decreases-loop w all₀ i₀ all i = 5 + AREAS - i
 
-pub numbers-spec : {M : Type 1} → statement M
-numbers-spec =
+pub numbers_spec : {M : Type 1} → statement M
+numbers_spec =
     tie.close
     (tie.spec
     invariant-loop

@@ -19,8 +19,8 @@ slice-aggregate-replay-blob c =
     let r = c.before.before.before in
     simp length-take (omega (arith, length-read r.before.before.padded.result r.before.before.before.buffer.result r.read-full.new.1.0 r.read-full.auto.1.0))
 
-pub replay-record-spec : {M : Type 1} → statement M
-replay-record-spec =
+pub replay_record_spec : {M : Type 1} → statement M
+replay_record_spec =
     tie.close
     (tie.spec
     (λ c κs. search rules)

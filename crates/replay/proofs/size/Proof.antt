@@ -11,5 +11,5 @@ mul-result c = omega (arith, mul-le-mul c.before.requires.0 c.width_of_lem.ensur
 returns : tie.Need-returns
 returns c = mul-le-mul c.before.requires.0 c.width_of_lem.ensures.1
 
-pub size-spec : {M : Type 1} → statement M
-size-spec = tie.close (tie.spec (λ c κs. search rules) mul-result returns)
+pub size_spec : {M : Type 1} → statement M
+size_spec = tie.close (tie.spec (λ c κs. search rules) mul-result returns)

@@ -48,8 +48,8 @@ loop-again c =
 returns-2 : tie.Need-returns-2 invariant-loop decreases-loop
 returns-2 c = sym (off-none _ _ _ _ (omega arith)) ∙ c.before.loop.invariant.1
 
-pub word-off-spec : {M : Type 1} → statement M
-word-off-spec =
+pub word_off_spec : {M : Type 1} → statement M
+word_off_spec =
     tie.close
     (tie.spec
     invariant-loop

@@ -28,8 +28,8 @@ returns-4 c =
     let m = t.before in
     answer-found read.Header read.Refused _ _ _ (rw (c.word3.ensures, c.before.word2.ensures)) (header-found _ _ _ (omega arith) (sym m.before.word.ensures ∙ t.if3.false ∙ m.signature.ensures))
 
-pub header-at-spec : {M : Type 1} → statement M
-header-at-spec =
+pub header_at_spec : {M : Type 1} → statement M
+header_at_spec =
     tie.close
     (tie.spec
     (λ c κs. search rules)

@@ -11,5 +11,5 @@ returns-3 c =
     let k = c.before.args.kind in
     (sym (short-header k (omega arith) (omega arith) c.match.rest.0.1 c.match.rest.1), omega arith, omega arith)
 
-pub header-length-spec : {M : Type 1} → statement M
-header-length-spec = tie.close (tie.spec (λ c. search rules) (λ c. search rules) returns-3)
+pub header_length_spec : {M : Type 1} → statement M
+header_length_spec = tie.close (tie.spec (λ c. search rules) (λ c. search rules) returns-3)

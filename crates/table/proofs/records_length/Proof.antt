@@ -12,5 +12,5 @@ mul-result c = omega (arith, records_bytes c.stride.result c.before.args.count (
 returns : tie.Need-returns
 returns c = (ap (λ w. w * c.before.args.count) c.stride.ensures.0, records_bytes _ _ (omega arith) (omega arith))
 
-pub records-length-spec : {M : Type 1} → statement M
-records-length-spec = tie.close (tie.spec (λ c κs. search rules) (λ c. search rules) mul-result returns)
+pub records_length_spec : {M : Type 1} → statement M
+records_length_spec = tie.close (tie.spec (λ c κs. search rules) (λ c. search rules) mul-result returns)

@@ -10,8 +10,8 @@ returns-9 c =
     let r = c.match.rest in
     sym (no-signature _ c.before.requires r.0.0.0.0.0.0.0.1 r.0.0.0.0.0.0.1 r.0.0.0.0.0.1 r.0.0.0.0.1 r.0.0.0.1 r.0.0.1 r.0.1 r.1)
 
-pub signature-spec : {M : Type 1} → statement M
-signature-spec =
+pub signature_spec : {M : Type 1} → statement M
+signature_spec =
     tie.close
     (tie.spec
     (λ c. search rules)

@@ -11,6 +11,6 @@ returns-7 c =
     let r = c.match.rest in
     (sym (no-stride _ c.before.requires r.0.0.0.0.0.1 r.0.0.0.0.1 r.0.0.0.1 r.0.0.1 r.0.1 r.1), omega arith)
 
-pub stride-spec : {M : Type 1} → statement M
-stride-spec =
+pub stride_spec : {M : Type 1} → statement M
+stride_spec =
     tie.close (tie.spec (λ c. search rules) (λ c. search rules) (λ c. search rules) (λ c. search rules) (λ c. search rules) (λ c. search rules) returns-7)

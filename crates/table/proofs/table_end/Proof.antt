@@ -50,8 +50,8 @@ returns-5 c =
     answer-found read.End read.Refused _ _ _ refl
     (end-by_size _ _ _ _ _ _ m.before.field2.ensures l.header_length.ensures.0 m.before.before.if1.false _ e (omega arith))
 
-pub table-end-spec : {M : Type 1} → statement M
-table-end-spec =
+pub table_end_spec : {M : Type 1} → statement M
+table_end_spec =
     tie.close
     (tie.spec
     (λ c κs. search rules)

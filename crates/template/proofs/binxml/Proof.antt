@@ -14,5 +14,5 @@ returns-2 c = rw (ne_eqb _ _ c.before.before.before.if1.false) (omega arith)
 returns-3 : tie.Need-returns-3
 returns-3 c = rw (ne_eqb _ _ c.before.before.before.before.before.if1.false)
 
-pub binxml-spec : {M : Type 1} → statement M
-binxml-spec = tie.close (tie.spec (λ c. search rules) returns returns-2 returns-3)
+pub binxml_spec : {M : Type 1} → statement M
+binxml_spec = tie.close (tie.spec (λ c. search rules) returns returns-2 returns-3)

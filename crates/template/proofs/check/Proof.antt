@@ -24,7 +24,7 @@ returns-2 c =
     let r = c.before.before.before.before in
     c.check-until.ensures ∙ sym (ap templates_read (templates-told _ _ _ _ (sym c.before.before.region2.given.1 ∙ r.region-end.ensures)))
 
-pub check-spec : {M : Type 1} → statement M
-check-spec =
+pub check_spec : {M : Type 1} → statement M
+check_spec =
     tie.close (
     tie.spec (λ c κs. search rules) (λ c. search rules) (λ c. search rules) (λ c. search rules) check-until-requires returns returns-2)

@@ -66,8 +66,8 @@ returns-4 c =
     c.check.ensures
     ∙ sym (fields_items _ _ _ _ _ _ _ j.before.before.word.ensures j.before.word2.ensures k.before.word3.ensures k.items_of.ensures (counted j) (sym i.items_at.ensures ∙ c.before.before.enum_told.given.1))
 
-pub check-fields-spec : {M : Type 1} → statement M
-check-fields-spec =
+pub check_fields_spec : {M : Type 1} → statement M
+check_fields_spec =
     tie.close (
     tie.spec (λ c. search rules) (λ c κs. search rules) (λ c. search rules) (λ c κs. search rules) (λ c. search rules) (λ c κs. search rules)
     returns (λ c. search rules) (λ c κs. search rules) (λ c. search rules) (λ c κs. search rules) (λ c κs. search rules) (λ c. search rules) returns-2

@@ -45,8 +45,8 @@ returns-4 c =
     simp (run-number, run-demand, le-leb _ _ p.0.0, eq-eqb _ _ (sym w.word.ensures ∙ f.before.if1.false), sym p.1, le-leb _ _ f.if2.false, le-leb _ _ ends)
     (simp run-number at c.check-fields.ensures)
 
-pub check-temp-spec : {M : Type 1} → statement M
-check-temp-spec =
+pub check_temp_spec : {M : Type 1} → statement M
+check_temp_spec =
     tie.close (
     tie.spec (λ c κs. search rules) (λ c κs. search rules) returns (λ c κs. search rules) returns-2 (λ c. search rules) (λ c κs. search rules) returns-3
     (λ c κs. search rules) returns-4)

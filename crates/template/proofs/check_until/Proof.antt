@@ -63,8 +63,8 @@ returns-3 c =
     let l = c.before.loop in
     sym (l.invariant.2 ∙ ap (counted_from _ _) (many-empty _ next _ _ _ c.loop-test.false) ∙ counted_none _ _ l.invariant.1)
 
-pub check-until-spec : {M : Type 1} → statement M
-check-until-spec =
+pub check_until_spec : {M : Type 1} → statement M
+check_until_spec =
     tie.close (
     tie.spec invariant-loop decreases-loop (λ c. (search rules, search rules, counted-all (λ (t : Template). length t.items) (run (many (template_at (until _)) next _ _) _))) (λ c. search rules) (λ c κs. search rules) returns (λ c. search rules) (λ c κs. search rules)
     (λ c κs. search rules) (λ c. search rules) returns-2 (λ c. search rules) (λ c. search rules) (λ c κs. search rules) (λ c κs. search rules)

@@ -18,5 +18,5 @@ returns c =
     let o = r.before.before.before in
     rw (ends_there _ o.args.h _ _ o.requires.0.0 r.region-of.ensures).told f.fill-items-until.ensures
 
-pub fill-items-spec : {M : Type 1} → statement M
-fill-items-spec = tie.close (tie.spec (λ c κs. search rules) (λ c. search rules) fill-items-until-requires (λ c. search rules) returns)
+pub fill_items_spec : {M : Type 1} → statement M
+fill_items_spec = tie.close (tie.spec (λ c κs. search rules) (λ c. search rules) fill-items-until-requires (λ c. search rules) returns)

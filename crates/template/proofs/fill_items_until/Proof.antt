@@ -97,8 +97,8 @@ returns c =
     let e = ap item_count (values-none (template_at (until o.end)) next l.left l.at o.b.now c.loop-test.false) in
     (omega (arith, l.invariant.2, e), sym (l.invariant.5 ∙ fill_none (template_at (until _)) next (λ ts. flat (λ e. e) (item_list l.number ts)) _ _ _ _ _ refl c.loop-test.false))
 
-pub fill-items-until-spec : {M : Type 1} → statement M
-fill-items-until-spec =
+pub fill_items_until_spec : {M : Type 1} → statement M
+fill_items_until_spec =
     tie.close (
     tie.spec invariant-loop decreases-loop (λ c. (search rules, search rules, search rules, refl, search rules, refl)) (λ c. search rules) word-requires (λ c. search rules) add-behind (λ c. search rules) word-requires-2
     cast-fill (λ c. search rules) word-requires-3 fill-requires (λ c. search rules) (λ c. search rules) (λ c. search rules) mul-to add-to

@@ -59,8 +59,8 @@ loop-less-2 c = turns-again _ _ _ _ _ c.before.word.ensures c.if1.false
 returns : tie.Need-returns invariant-loop decreases-loop
 returns c = sym (c.before.loop.invariant.4 ∙ rest-none _ next (template_words _) _ _ _ _ _ c.loop-test.false)
 
-pub fill-until-spec : {M : Type 1} → statement M
-fill-until-spec =
+pub fill_until_spec : {M : Type 1} → statement M
+fill_until_spec =
     tie.close (
     tie.spec invariant-loop decreases-loop (λ c. (search rules, search rules, refl, search rules, refl)) (λ c. search rules) word-requires put-requires
     (λ c. search rules) (λ c. search rules) (λ c. search rules) (λ c. search rules) loop-less loop-again loop-less-2 (λ c. search rules)

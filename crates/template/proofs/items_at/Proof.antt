@@ -19,8 +19,8 @@ returns-3 : tie.Need-returns-3
 unfolding run items_at
 returns-3 c = rw c.before.before.before.items2.given.1 (ap verdicts.Refused c.offset-out2.ensures)
 
-pub items-at-spec : {M : Type 1} → statement M
-items-at-spec =
+pub items_at_spec : {M : Type 1} → statement M
+items_at_spec =
     tie.close (
     tie.spec (λ c. search rules) (λ c. search rules) (λ c. search rules) (λ c κs. search rules) (λ c. search rules) (λ c. search rules) (λ c κs. search rules)
     returns returns-2 returns-3)

@@ -19,5 +19,5 @@ returns-4 c =
     let m = c.before.before.before in
     rw (ne_eqb _ _ m.before.before.before.if1.false, le-ltb _ _ m.if2.false, lt-leb _ _ c.if3.false)
 
-pub items-of-spec : {M : Type 1} → statement M
-items-of-spec = tie.close (tie.spec returns returns-2 returns-3 returns-4)
+pub items_of_spec : {M : Type 1} → statement M
+items_of_spec = tie.close (tie.spec returns returns-2 returns-3 returns-4)

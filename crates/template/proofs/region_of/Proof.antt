@@ -19,5 +19,5 @@ returns-2 c =
     let r = e.before.before in
     sym e.end.given.1 ∙ r.region-end.ensures
 
-pub region-of-spec : {M : Type 1} → statement M
-region-of-spec = tie.close (tie.spec (λ c κs. search rules) (λ c. search rules) (λ c. search rules) returns returns-2)
+pub region_of_spec : {M : Type 1} → statement M
+region_of_spec = tie.close (tie.spec (λ c κs. search rules) (λ c. search rules) (λ c. search rules) returns returns-2)

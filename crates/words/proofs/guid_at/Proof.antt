@@ -8,8 +8,8 @@ use Rattle.words.proofs.guid_at.Tie as tie
 returns : tie.Need-returns
 returns c = guid-found _ _ ∙ rw (c.word4.ensures, c.before.word3.ensures, c.before.before.word2.ensures, c.before.before.before.word.ensures)
 
-pub guid-at-spec : {M : Type 1} → statement M
-guid-at-spec =
+pub guid_at_spec : {M : Type 1} → statement M
+guid_at_spec =
     tie.close
     (tie.spec
     (λ c κs. search rules)
