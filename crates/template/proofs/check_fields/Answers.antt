@@ -38,3 +38,17 @@ pub returns : goal.returns
 returns c =
     c.check.ensures
     ∙ sym (fields_items _ _ _ _ _ _ _ c.word-descriptors.ensures c.word-names.ensures c.word-offset.ensures c.items_of.ensures (counted _ _ c.else-descriptors-eq0.either) (sym c.items_at-found.ensures ∙ c.in_default.is))
+
+pub returns-then-names-ne0 : goal.returns-then-names-ne0
+unfolding then
+returns-then-names-ne0 c =
+    simp (
+      run-number,
+      run_bind,
+      guid-found,
+      run-demand,
+      sym c.word-descriptors.ensures,
+      sym c.word-names.ensures,
+      eq-eqb _ _ c.if-descriptors-eq0.true,
+      ne_eqb _ _ c.if-names-ne0.true,
+    ) (ap verdicts.Refused c.count_out.ensures)
