@@ -1,0 +1,6 @@
+-- A verdict is a refusal or Fine.
+use borrow.Author.Rules.{rules}
+use Rattle.element.proofs.no_entries.Goals as goal
+
+pub returns-in-Refused : goal.returns-in-Refused
+returns-in-Refused c = rw c.in-Refused.is
