@@ -13,7 +13,7 @@ use blob::Verdict;
 use format::list::{AREAS, NUMBERS, WORDS};
 
 // Where a walk over the providers stands: the place of the next one's descriptor, and how many are left.
-#[derive(Drop)]
+#[derive(Clone, Copy)]
 pub struct Position {
     pub at: usize,
     pub left: u32,

@@ -142,7 +142,7 @@ pub fn descriptor_of(b: &[u8], at: usize) -> Descriptor
 
 // What going over a provider's elements finds: how many are of no known kind, how many entries the entries of the last table of each kind
 // have, where the number stops rising at 65,537, and where that table stands.
-#[derive(Drop)]
+#[derive(Clone, Copy)]
 pub struct Elements {
     pub verdict: Verdict,
     pub unknown: u32,

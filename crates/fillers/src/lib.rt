@@ -89,7 +89,7 @@ fn has_entries(list: u32, kind: u32) -> bool
 }
 
 // What an EVNT has beside its events: the extra word, and what trails them. Other tables have none of it.
-#[derive(Drop)]
+#[derive(Clone, Copy)]
 pub struct Trailing {
     pub extra: u32,
     pub start: u32,

@@ -12,7 +12,7 @@ pub mod signature;
 pub const LONGEST: usize = 16777216;
 
 // A GUID: its 16 bytes as little-endian words.
-#[derive(Drop)]
+#[derive(Clone, Copy)]
 pub struct Guid {
     pub a: u32,
     pub b: u32,
@@ -21,7 +21,7 @@ pub struct Guid {
 }
 
 // A sized name: where its text starts, the text's units, and whether a zero unit ended it. An absent name's are 0, 0, false.
-#[derive(Drop)]
+#[derive(Clone, Copy)]
 pub struct Name {
     pub start: u32,
     pub units: u32,
@@ -29,28 +29,28 @@ pub struct Name {
 }
 
 // What reading a region's size finds: where the region ends.
-#[derive(Drop)]
+#[derive(Clone, Copy)]
 pub enum EndRead {
     End(usize),
     Refused(Refusal),
 }
 
 // A table's size and count words.
-#[derive(Drop)]
+#[derive(Clone, Copy)]
 pub struct Header {
     pub size: u32,
     pub count: u32,
 }
 
 // What reading a table's header finds.
-#[derive(Drop)]
+#[derive(Clone, Copy)]
 pub enum HeaderRead {
     Header(Header),
     Refused(Refusal),
 }
 
 // A record of CHAN, KEYW, LEVL, OPCO or TASK, one entry type for all five.
-#[derive(Drop)]
+#[derive(Clone, Copy)]
 pub struct Definition {
     pub kind: u32,
     pub low: u32,
@@ -63,7 +63,7 @@ pub struct Definition {
 }
 
 // A record of EVNT: the fields of the original's EventDefinition, in order, keywords as low and high.
-#[derive(Drop)]
+#[derive(Clone, Copy)]
 pub struct Event {
     pub identifier: u32,
     pub version: u32,
@@ -84,15 +84,15 @@ pub struct Event {
 }
 
 // An offset from the blob's start.
-#[derive(Drop)]
+#[derive(Clone, Copy)]
 pub struct BlobPlace(pub u32);
 
 // An offset from a template's start.
-#[derive(Drop)]
+#[derive(Clone, Copy)]
 pub struct TemplatePlace(pub u32);
 
 // Where a template's items stand: at a place of the template, before it in the blob, or past its end.
-#[derive(Drop)]
+#[derive(Clone, Copy)]
 pub enum Items {
     At(TemplatePlace),
     Before(BlobPlace),
@@ -100,7 +100,7 @@ pub enum Items {
 }
 
 // A map of a MAPS: a VMAP (kind 1), a BMAP (2) or another (3). For the last two size, string, name and count are 0.
-#[derive(Drop)]
+#[derive(Clone, Copy)]
 pub struct Map {
     pub kind: u32,
     pub signature: u32,
@@ -114,7 +114,7 @@ pub struct Map {
 }
 
 // What reading a map finds.
-#[derive(Drop)]
+#[derive(Clone, Copy)]
 pub enum MapRead {
     Map(Map),
     Refused(Refusal),
@@ -122,21 +122,21 @@ pub enum MapRead {
 
 // What checking an element finds: how many entries its own entries have, a MAPS's maps map entries and a TTBL's templates items, where
 // the number stops rising at 65,537.
-#[derive(Drop)]
+#[derive(Clone, Copy)]
 pub enum EntriesRead {
     Entries(u32),
     Refused(Refusal),
 }
 
 // An entry of a VMAP.
-#[derive(Drop)]
+#[derive(Clone, Copy)]
 pub struct MapEntry {
     pub identifier: u32,
     pub message: u32,
 }
 
 // A WEVT's header: size, message, and how many descriptors and unknown2 words follow.
-#[derive(Drop)]
+#[derive(Clone, Copy)]
 pub struct Wevt {
     pub size: u32,
     pub message: u32,
@@ -145,14 +145,14 @@ pub struct Wevt {
 }
 
 // What reading a WEVT's header finds.
-#[derive(Drop)]
+#[derive(Clone, Copy)]
 pub enum WevtRead {
     Wevt(Wevt),
     Refused(Refusal),
 }
 
 // A provider's element descriptor, with its element's signature.
-#[derive(Drop)]
+#[derive(Clone, Copy)]
 pub struct Descriptor {
     pub offset: u32,
     pub unknown: u32,
@@ -160,7 +160,7 @@ pub struct Descriptor {
 }
 
 // An element of no known kind.
-#[derive(Drop)]
+#[derive(Clone, Copy)]
 pub struct Unknown {
     pub signature: u32,
     pub offset: u32,
@@ -168,14 +168,14 @@ pub struct Unknown {
 }
 
 // What checking the providers finds: how many entries each list needs for them, where each number stops rising at 65,537.
-#[derive(Drop)]
+#[derive(Clone, Copy)]
 pub struct Needed {
     pub verdict: Verdict,
     pub counts: [u32; AREAS],
 }
 
 // The header of the CRIM block.
-#[derive(Drop)]
+#[derive(Clone, Copy)]
 pub struct CrimHeader {
     pub size: u32,
     pub major: u32,
@@ -184,14 +184,14 @@ pub struct CrimHeader {
 }
 
 // What reading the block's header finds.
-#[derive(Drop)]
+#[derive(Clone, Copy)]
 pub enum CrimRead {
     Header(CrimHeader),
     Refused(Refusal),
 }
 
 // The answer of a reading.
-#[derive(Drop)]
+#[derive(Clone, Copy)]
 pub struct Answer {
     pub code: u8,
     pub field: u8,
@@ -202,7 +202,7 @@ pub struct Answer {
 }
 
 // What an event is looked up by.
-#[derive(Drop)]
+#[derive(Clone, Copy)]
 pub struct Key {
     pub guid: Guid,
     pub identifier: u32,
@@ -216,7 +216,7 @@ pub struct Key {
 }
 
 // What the lookup by offset finds: the number of a template entry.
-#[derive(Drop)]
+#[derive(Clone, Copy)]
 pub enum TemplateFound {
     Number(u32),
     Nothing,
@@ -224,7 +224,7 @@ pub enum TemplateFound {
 }
 
 // What the lookup by key finds: how many GUIDs it gave.
-#[derive(Drop)]
+#[derive(Clone, Copy)]
 pub enum GuidsFound {
     Given(u32),
     Refused(Refusal),

@@ -4,7 +4,7 @@ ghost use Rattle.std.specs.Prelude.{◌≡◌};
 ghost use Rattle.format.specs.Handle.{AllowedPart};
 
 // A blob beside its size.
-#[derive(Drop)]
+#[derive(Clone, Copy)]
 pub struct Handle<'a> {
     pub blob: &'a [u8],
     pub size: usize,

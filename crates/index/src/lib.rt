@@ -19,41 +19,41 @@ const ONE: [u64; 1] = [WORD];
 const ENTRY: [u64; 9] = [WORD, HALF, BYTE, BYTE, BYTE, BYTE, HALF, LONG, WORD];
 
 // How many bytes or words are given, or why none are.
-#[derive(Drop)]
+#[derive(Clone, Copy)]
 pub enum IndexAnswer {
     Given(usize),
     Refused(Refusal),
 }
 
 // A number of 32 bits, and the place behind it.
-#[derive(Drop)]
+#[derive(Clone, Copy)]
 pub struct Word {
     pub value: u32,
     pub behind: usize,
 }
 
-#[derive(Drop)]
+#[derive(Clone, Copy)]
 pub enum WordRead {
     Word(Word),
     Refused(Refusal),
 }
 
 // The place behind some numbers.
-#[derive(Drop)]
+#[derive(Clone, Copy)]
 pub enum Behind {
     At(usize),
     Refused(Refusal),
 }
 
 // A count and the place behind its rows.
-#[derive(Drop)]
+#[derive(Clone, Copy)]
 pub enum CountedRead {
     Counted(Word),
     Refused(Refusal),
 }
 
 // What an index has that was tested: the place behind its edition, how many providers, how many entries, the place behind them.
-#[derive(Drop)]
+#[derive(Clone, Copy)]
 pub struct Shape {
     pub at: usize,
     pub providers: u32,
@@ -61,14 +61,14 @@ pub struct Shape {
     pub end: usize,
 }
 
-#[derive(Drop)]
+#[derive(Clone, Copy)]
 pub enum Checked {
     Fine(Shape),
     Refused(Refusal),
 }
 
 // Where reading and giving go on.
-#[derive(Drop)]
+#[derive(Clone, Copy)]
 pub struct Place {
     pub at: usize,
     pub to: usize,

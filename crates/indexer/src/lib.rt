@@ -31,14 +31,14 @@ const UNKNOWN2_COUNT: usize = 8;
 const EDITION: u64 = 1;
 
 // A provider's number, and its templates.
-#[derive(Drop)]
+#[derive(Clone, Copy)]
 pub struct Known {
     pub provider: u32,
     pub templates: Run,
 }
 
 // How many entries there are, and the bytes that they take.
-#[derive(Drop)]
+#[derive(Clone, Copy)]
 pub struct Extent {
     pub entries: u32,
     pub bytes: usize,

@@ -18,7 +18,7 @@ use format::kind;
 use format::list::{AREAS, MOST, row, width};
 
 // The number of an entry that was looked for, if there is one.
-#[derive(Drop)]
+#[derive(Clone, Copy)]
 pub enum Found {
     Number(u32),
     Nothing,
@@ -26,7 +26,7 @@ pub enum Found {
 
 // Entries of a list, one behind the other: where in the lent words the list starts, the number of the first of them in the list, and
 // how many they are.
-#[derive(Drop)]
+#[derive(Clone, Copy)]
 pub struct Run {
     pub start: usize,
     pub first: u32,

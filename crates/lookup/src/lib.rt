@@ -15,7 +15,7 @@ use format::{GuidsFound, Key, TemplateFound, kind, list};
 use lists::{Found, Run};
 
 // The next of a provider's events that gives a GUID that was not given before: the number of its template, and the events behind it.
-#[derive(Drop)]
+#[derive(Clone, Copy)]
 pub enum Next {
     Template(u32, Run),
     Over,
@@ -23,7 +23,7 @@ pub enum Next {
 
 // Where the lookup by key stands: the events that are left of a provider, the templates that they are resolved in, and the providers
 // behind it.
-#[derive(Drop)]
+#[derive(Clone, Copy)]
 pub struct Walk {
     pub events: Run,
     pub templates: Run,
@@ -31,14 +31,14 @@ pub struct Walk {
 }
 
 // A provider that the lookup came to, if there is one.
-#[derive(Drop)]
+#[derive(Clone, Copy)]
 pub enum Came {
     To(Walk),
     Nowhere,
 }
 
 // The next of all events that does so, and where the lookup stands behind it.
-#[derive(Drop)]
+#[derive(Clone, Copy)]
 pub enum Step {
     Template(u32, Walk),
     Over,

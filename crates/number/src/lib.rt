@@ -18,14 +18,14 @@ pub const LONG: u64 = 18446744073709551615;
 const LONGEST: u32 = 10;
 
 // A number, and the place behind it.
-#[derive(Drop)]
+#[derive(Clone, Copy)]
 pub struct Number {
     pub value: u64,
     pub behind: usize,
 }
 
 // The place behind a number, or the code that it is refused with.
-#[derive(Drop)]
+#[derive(Clone, Copy)]
 pub enum Passed {
     To(usize),
     Refused(u8),

@@ -1,0 +1,6 @@
+-- The refusal holds what `have` counts.
+use borrow.Author.Rules.{rules}
+use Rattle.bounds.proofs.truncated.Goals as goal
+
+pub returns : goal.returns
+returns c = rw c.have.ensures

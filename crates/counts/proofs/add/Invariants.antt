@@ -1,0 +1,17 @@
+-- What is left of the rows decides.
+use Prim.Native.Nat.{◌-◌, ◌≤◌}
+use mathlib.Core.Path.{◌≡◌, refl, sym, ◌∙◌}
+use lib.ListN.{length, length-set}
+use Rattle.format.specs.Area.{AREAS}
+use Rattle.format.specs.steps.Needs.{plus, modest}
+use Rattle.counts.specs.Short.{plus_from, plus_step, plus-end, modest-set, modest-at}
+use borrow.Author.Rules.{rules}
+use native.Mathlib.Omega.{arith}
+use Rattle.bounds.proofs.sum.Reads as sum-reads
+use Rattle.counts.proofs.add.Given as goal
+
+abbrev pub invariant-loop-i : goal.invariant-loop-i
+invariant-loop-i l = (l.i ≤ AREAS) × (length l.sums ≡ AREAS) × (length l.more ≡ AREAS) × modest l.sums × (plus_from l.i l.sums l.more ≡ plus l.initial.sums l.more)
+
+abbrev pub decreases-loop-i : goal.decreases-loop-i
+decreases-loop-i l = AREAS - l.i

@@ -1,0 +1,15 @@
+-- Of entries that are no wider than the widest.
+use Prim.Native.Nat.{◌*◌}
+use mathlib.Core.Path.{ap}
+use Rattle.counts.specs.Short.{words-most}
+use borrow.Author.Rules.{rules}
+use native.Mathlib.Omega.{arith}
+use borrow.Author.Rules.{rules}
+use Rattle.counts.proofs.width_of.Reads as width-of-reads
+use Rattle.counts.proofs.words_of.Goals as goal
+
+pub overflow_mul-result : goal.overflow_mul-result
+overflow_mul-result c = omega (arith, words-most c.args.entries c.width_of.result (omega arith) c.width_of.ensures.1)
+
+pub returns : goal.returns
+returns c = (ap (λ w. c.args.entries * w) c.width_of.ensures.0, words-most c.args.entries c.width_of.result (omega arith) c.width_of.ensures.1)

@@ -1,0 +1,18 @@
+-- The bytes before this one say `value`; those from it on, times `scale`, say what is missing of the number.
+use Prim.Native.Nat.{◌*◌, ◌-◌, ◌≤◌}
+use mathlib.Core.Path.{◌≡◌, refl, ap, ap₂, sym, ◌∙◌}
+use native.Mathlib.Omega.{arith}
+use borrow.Author.Rules.{rules}
+use lib.ListN.{length, get_or, drop}
+use Rattle.blob.specs.Reading.{done}
+use Rattle.blob.specs.Laws.{fine-value}
+use Rattle.number.specs.Number.{LONG, number_at}
+use Rattle.number.specs.Scan.{Rest, rest_all, byte_left, byte-ends, byte-goes, read_fits}
+use Rattle.number.specs.declared.Number.{Number}
+use Rattle.number.proofs.read.Given as goal
+
+abbrev pub invariant-loop-at : goal.invariant-loop-at
+invariant-loop-at l = (n : Number) × (number_at LONG l.bytes l.at ≡ done n) × Rest (drop l.i l.bytes) l.i l.value l.scale n.value n.behind × (1 ≤ l.scale)
+
+abbrev pub decreases-loop-at : goal.decreases-loop-at
+decreases-loop-at l = length l.bytes - l.i
