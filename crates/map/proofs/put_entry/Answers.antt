@@ -1,0 +1,6 @@
+-- The two words.
+use borrow.Author.Rules.{rules}
+use Rattle.map.proofs.put_entry.Goals as goal
+
+pub returns : goal.returns
+returns c = rw (← c.word.ensures, ← c.word-2.ensures) c.put.ensures

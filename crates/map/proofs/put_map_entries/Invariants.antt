@@ -1,0 +1,27 @@
+-- The invariant: what is left decides. The entries of the maps that are left, laid from here, make the area what it shall be.
+use Prim.Native.Nat.{◌+◌, ◌*◌, ◌≤◌}
+use mathlib.Core.Path.{◌≡◌, refl, sym, ◌∙◌}
+use native.Mathlib.Omega.{arith}
+use borrow.Author.Rules.{rules}
+use lib.ListN.{length}
+use Rattle.blob.specs.declared.Verdict.TheVariants as verdicts
+use Rattle.blob.specs.Laid.{laid, flat}
+use Rattle.blob.specs.Reading.{run, verdict, values}
+use Rattle.blob.specs.Laws.{fill_none}
+use Rattle.format.specs.Area.{ENTRIES, width}
+use Rattle.format.specs.Definition.{step}
+use Rattle.format.specs.steps.Needs.{entry_count}
+use Rattle.map.specs.Listed.{listed_at, listed}
+use Rattle.map.specs.Next.{unread, entries_words, count_none, never_refused, next-inside, next-fine, next-count, next-entries}
+use Rattle.map.proofs.put_map_entries.Given as goal
+
+abbrev pub invariant-loop-left : goal.invariant-loop-left
+invariant-loop-left l =
+    (l.place + 4 * l.left ≤ length l.b)
+    × (l.to + width ENTRIES * entry_count (values (unread l.end l.start l.first l.b l.left l.place)) ≡ width ENTRIES * entry_count (values (run (listed l.end l.start l.n) l.b)))
+    × (length l.area ≡ length l.initial.area)
+    × (verdict (unread l.end l.start l.first l.b l.left l.place) ≡ verdicts.Fine)
+    × (laid l.initial.area 0 (entries_words (values (run (listed l.end l.start l.n) l.b))) ≡ laid l.area l.to (entries_words (values (unread l.end l.start l.first l.b l.left l.place))))
+
+abbrev pub decreases-loop-left : goal.decreases-loop-left
+decreases-loop-left l = l.left

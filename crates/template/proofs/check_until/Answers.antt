@@ -1,0 +1,46 @@
+-- The invariant: what is left decides. The answer for the TEMPs that are left, with the items so far, is that for all.
+use Prim.Native.Nat.{◌+◌, ◌≤◌, ◌<◌}
+use mathlib.Core.Path.{◌≡◌, ap, sym, ◌∙◌}
+use native.Mathlib.Omega.{arith}
+use lib.ListN.{length}
+use borrow.Author.Rules.{rules}
+use borrow.Author.Tests.{lt-leb}
+use Rattle.blob.specs.Reading.{run, many}
+use Rattle.blob.specs.Laws.{many-refused, many-empty, refused-value, run-fails}
+use Rattle.format.specs.Region.{until, inside}
+use Rattle.format.specs.Template.{Template, template_at, next}
+use Rattle.format.specs.Answer.{capped}
+use Rattle.format.specs.declared.EntriesRead.TheVariants as entries
+use Rattle.format.specs.steps.Needs.{templates_read}
+use Rattle.format.specs.Theorems.Counting.{counted_from, counted-all, counted_none, counted-more}
+use Rattle.template.specs.Temp.{fine-template, fine-count}
+use Rattle.template.specs.Templates.{turns, turns-again, turns_next}
+use Rattle.template.proofs.check_until.Goals as goal
+
+pub returns-then-end-at-lt40 : goal.returns-then-end-at-lt40
+unfolding template_at inside
+returns-then-end-at-lt40 c =
+    let cut : c.args.end < c.loop-left.at + 40 = omega arith in
+    ap entries.Refused c.truncated.ensures
+    ∙ sym (c.loop-left.invariant.2 ∙ ap (counted_from _ _) (many-refused _ next _ _ _ _ c.loop-left-test.true (run-fails _ _ _ _ (lt-leb _ _ cut))))
+
+pub returns-in-Refused : goal.returns-in-Refused
+returns-in-Refused c =
+    sym (c.loop-left.invariant.2 ∙ ap (counted_from _ _) (many-refused _ next _ _ _ _ c.loop-left-test.true (refused-value _ _ (sym c.in-Refused.is ∙ c.check_temp-found.ensures))))
+
+pub loop-left-smaller-then-size-same : goal.loop-left-smaller-then-size-same
+loop-left-smaller-then-size-same c = turns_next _ _ _ _ _ _ c.loop-left-test.true
+
+pub loop-left-preserved-then-size-same : goal.loop-left-preserved-then-size-same
+loop-left-preserved-then-size-same c =
+    let size = sym c.if-size-same.true ∙ c.word-size.ensures in
+    let f = fine-template _ _ _ _ size (sym c.check_temp-found.ensures ∙ c.in_default.is) in
+    let more = c.sum-items.ensures ∙ ap (λ n. capped (c.loop-left.items + n)) (c.word.ensures ∙ sym (fine-count _ _ _ _ size f)) in
+    (f.stands.ends, omega arith, c.loop-left.invariant.2 ∙ counted-more _ _ next _ _ _ _ c.loop-left-test.true f.found _ _ more)
+
+pub loop-left-smaller : goal.loop-left-smaller
+loop-left-smaller c = turns-again _ _ _ _ _ c.word-size.ensures c.if-size-same.false
+
+pub returns : goal.returns
+returns c =
+    sym (c.loop-left.invariant.2 ∙ ap (counted_from _ _) (many-empty _ next _ _ _ c.loop-left-test.false) ∙ counted_none _ _ c.loop-left.invariant.1)

@@ -1,0 +1,27 @@
+-- The invariant: what is left decides. The answer for the TEMPs that are left, with the items so far, is that for all.
+use Prim.Native.Nat.{◌+◌, ◌≤◌, ◌<◌}
+use mathlib.Core.Path.{◌≡◌, ap, sym, ◌∙◌}
+use native.Mathlib.Omega.{arith}
+use lib.ListN.{length}
+use borrow.Author.Rules.{rules}
+use borrow.Author.Tests.{lt-leb}
+use Rattle.blob.specs.Reading.{run, many}
+use Rattle.blob.specs.Laws.{many-refused, many-empty, refused-value, run-fails}
+use Rattle.format.specs.Region.{until, inside}
+use Rattle.format.specs.Template.{Template, template_at, next}
+use Rattle.format.specs.Answer.{capped}
+use Rattle.format.specs.declared.EntriesRead.TheVariants as entries
+use Rattle.format.specs.steps.Needs.{templates_read}
+use Rattle.format.specs.Theorems.Counting.{counted_from, counted-all, counted_none, counted-more}
+use Rattle.template.specs.Temp.{fine-template, fine-count}
+use Rattle.template.specs.Templates.{turns, turns-again, turns_next}
+use Rattle.template.proofs.check_until.Given as goal
+
+abbrev pub invariant-loop-left : goal.invariant-loop-left
+invariant-loop-left l =
+    (l.at ≤ l.end)
+    × (l.items ≤ 65537)
+    × (templates_read (run (many (template_at (until l.end)) next l.n l.start) l.b) ≡ counted_from (λ t. length t.items) l.items (run (many (template_at (until l.end)) next l.left l.at) l.b))
+
+abbrev pub decreases-loop-left : goal.decreases-loop-left
+decreases-loop-left l = turns l.b l.at l.left l.same

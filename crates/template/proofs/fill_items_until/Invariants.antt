@@ -1,0 +1,32 @@
+-- The invariant: what is left decides. The items of the rest, laid from here, make the area what it shall be, and the rest is fine.
+use Prim.Native.Nat.{◌+◌, ◌*◌, ◌≤◌}
+use mathlib.Core.Path.{◌≡◌, refl, ap, sym, ◌∙◌}
+use native.Mathlib.Omega.{arith}
+use lib.ListN.{length}
+use borrow.Author.Rules.{rules}
+use Rattle.blob.specs.declared.Verdict.TheVariants as verdicts
+use Rattle.blob.specs.Le.{le}
+use Rattle.blob.specs.Reading.{run, many, verdict, values}
+use Rattle.blob.specs.Laid.{laid, flat}
+use Rattle.blob.specs.Laws.{many_more, values-none, fill_none}
+use Rattle.format.specs.Area.{ITEMS, width}
+use Rattle.format.specs.Region.{until}
+use Rattle.format.specs.Template.{template_at, next}
+use Rattle.format.specs.Lists.{item_list}
+use Rattle.format.specs.steps.Needs.{total, item_count}
+use Rattle.template.specs.Temp.{Stands}
+use Rattle.template.specs.Templates.{first_fine, next-items, next-words}
+use Rattle.template.proofs.fill_items_until.Given as goal
+
+abbrev pub invariant-loop-left : goal.invariant-loop-left
+invariant-loop-left l =
+    (l.at ≤ l.end)
+    × (l.number + l.left ≡ l.first + l.n)
+    × (l.to + width ITEMS * item_count (values (run (many (template_at (until l.end)) next l.left l.at) l.b)) ≡ width ITEMS * item_count (values (run (many (template_at (until l.end)) next l.n l.start) l.b)))
+    × (length l.area ≡ length l.initial.area)
+    × (verdict (run (many (template_at (until l.end)) next l.left l.at) l.b) ≡ verdicts.Fine)
+    × (laid l.initial.area 0 (flat (λ e. e) (item_list l.first (values (run (many (template_at (until l.end)) next l.n l.start) l.b))))
+    ≡ laid l.area l.to (flat (λ e. e) (item_list l.number (values (run (many (template_at (until l.end)) next l.left l.at) l.b)))))
+
+abbrev pub decreases-loop-left : goal.decreases-loop-left
+decreases-loop-left l = l.left
