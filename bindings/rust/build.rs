@@ -13,8 +13,16 @@ fn main() {
     println!("cargo::rerun-if-env-changed=DUCAT_ARCHIVE");
     println!("cargo::rerun-if-changed=../archive");
     println!("cargo::rerun-if-changed=../../build");
-    println!("cargo::rerun-if-changed=../../crates");
     println!("cargo::rerun-if-changed=../../crates.txt");
+    // Not what `rt` keeps beside these, which changes with each check.
+    for entry in std::fs::read_dir("../../crates").expect("the crates") {
+        let folder = entry.expect("a crate").path();
+        for part in ["src", "specs", "proofs"].map(|part| folder.join(part)) {
+            if part.is_dir() {
+                println!("cargo::rerun-if-changed={}", part.display());
+            }
+        }
+    }
 
     let mut command = Command::new("../archive");
     command.stdout(Stdio::piped()).stderr(Stdio::piped());

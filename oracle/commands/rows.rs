@@ -42,7 +42,7 @@ fn run() -> io::Result<()> {
 
 /// One theorem: what the definition finds of the blob is the answer.
 fn write_row(to: &mut impl Write, number: usize, blob: &[u8], answer: &Answer) -> io::Result<()> {
-    write!(to, "\nrow-{number} : found (")?;
+    write!(to, "\nrow_{number} : found (")?;
     write_list(to, blob)?;
     write!(
         to,
@@ -60,7 +60,7 @@ fn write_row(to: &mut impl Write, number: usize, blob: &[u8], answer: &Answer) -
             write!(to, ") ∷ ")?;
         }
     }
-    writeln!(to, "[] }}\nunfolding found\nrow-{number} = refl")
+    writeln!(to, "[] }}\nunfolding found\nrow_{number} = refl")
 }
 
 fn write_list<N: std::fmt::Display>(to: &mut impl Write, numbers: &[N]) -> io::Result<()> {

@@ -2,12 +2,18 @@
 // counts, and behind that of an accepted one a line with the words of each list that has entries.
 // The input is a row of records: 32-bit little-endian numbers, which are the lengths of the name and of the blob and a capacity for each
 // list; 80 bytes with the name; 512 bytes with the blob.
+#![tactic(auto)]
+
 ghost use Rattle.std.specs.Prelude.{◌+◌, ◌*◌, ◌≤◌, ◌<◌, length};
 ghost use Rattle.format.specs.Area.{AREAS};
 
 use format::Answer;
 use format::list::{AREAS, EACH};
-use libc::{STDIN_FILENO, STDOUT_FILENO};
+
+// Standard input and standard output, as the system numbers them.
+const STDIN_FILENO: i32 = 0;
+
+const STDOUT_FILENO: i32 = 1;
 
 // Where a record's name and its blob start, and where it ends.
 const NAME: usize = 8 + 4 * AREAS;

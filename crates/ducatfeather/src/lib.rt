@@ -1,4 +1,6 @@
-// The C boundary: `read`, `needs`, the lookups and the index over lent runs of numbers.
+// `read`, `needs`, the lookups and the index over lent runs of numbers. The crate ducatfeather_c hands the public functions to C.
+#![tactic(auto)]
+
 ghost use Rattle.std.specs.Prelude.{◌≡◌, ◌∷◌, length, get_or};
 ghost use Rattle.format.specs.Area.{AREAS};
 ghost use Rattle.format.specs.Answer as spec;
@@ -82,13 +84,7 @@ fn tell(lent: &mut [u64], told: &[u64])
 }
 
 // Reads the block in a lent blob into lent words; include/ducatfeather.h says it in C.
-#[unsafe(no_mangle)]
-pub extern "C" fn ducat_read(
-    blob: &[u8],
-    words: &mut [u32],
-    capacities: &[u32],
-    answer: &mut [u64],
-) -> u32
+pub fn ducat_read(blob: &[u8], words: &mut [u32], capacities: &[u32], answer: &mut [u64]) -> u32
     ensures { call.AllowedRead blob.now words.old capacities.now answer.old result words.new answer.new }
 {
     let a = read(blob, words, capacities, answer.len());
@@ -108,8 +104,7 @@ fn needs(blob: &[u8], n: usize) -> Answer
 }
 
 // Says what each list needs for the block in a lent blob.
-#[unsafe(no_mangle)]
-pub extern "C" fn ducat_needs(blob: &[u8], answer: &mut [u64]) -> u32
+pub fn ducat_needs(blob: &[u8], answer: &mut [u64]) -> u32
     ensures { call.AllowedNeeds blob.now answer.old result answer.new }
 {
     let a = needs(blob, answer.len());
@@ -181,8 +176,7 @@ fn template_code(f: TemplateFound) -> u32
 }
 
 // Finds a provider's lowest template at an offset in a range of list 9.
-#[unsafe(no_mangle)]
-pub extern "C" fn ducat_template_at(
+pub fn ducat_template_at(
     words: &[u32],
     capacities: &[u32],
     counts: &[u32],
@@ -282,8 +276,7 @@ fn guid_code(f: GuidsFound) -> u32
 }
 
 // Gives the GUIDs of the templates of the events with a key, each once.
-#[unsafe(no_mangle)]
-pub extern "C" fn ducat_templates_for(
+pub fn ducat_templates_for(
     words: &[u32],
     capacities: &[u32],
     counts: &[u32],
@@ -359,8 +352,7 @@ fn index_told(a: IndexAnswer, answer: &mut [u64]) -> u32
 }
 
 // Reads an index back: its numbers, as words.
-#[unsafe(no_mangle)]
-pub extern "C" fn ducat_index_read(bytes: &[u8], numbers: &mut [u32], answer: &mut [u64]) -> u32
+pub fn ducat_index_read(bytes: &[u8], numbers: &mut [u32], answer: &mut [u64]) -> u32
     ensures { called.AllowedCall (called.called_read bytes.now numbers.old (length answer.old)) numbers.old answer.old result numbers.new answer.new }
 {
     let a = index_read(bytes, numbers, answer.len());
@@ -368,8 +360,7 @@ pub extern "C" fn ducat_index_read(bytes: &[u8], numbers: &mut [u32], answer: &m
 }
 
 // Writes the index of the lists of a reading.
-#[unsafe(no_mangle)]
-pub extern "C" fn ducat_index_write(
+pub fn ducat_index_write(
     words: &[u32],
     capacities: &[u32],
     counts: &[u32],

@@ -1,4 +1,6 @@
 // Lists the block on standard input: one line for it, and one for each of its template entries.
+#![tactic(auto)]
+
 ghost use Rattle.std.specs.Prelude.{◌≡◌, ◌++◌, ◌+◌, ◌*◌, ◌≤◌, length};
 ghost use Rattle.format.specs.Answer as spec;
 ghost use Rattle.format.specs.Area.{PROVIDERS, EVENTS, TEMPLATES, width, of};
@@ -11,7 +13,11 @@ use format::entry::{
     TEMPLATE_LENGTH, TEMPLATE_OFFSET, TEMPLATE_PROVIDER, TEMPLATE_SIZE, TEMPLATE_START,
 };
 use format::list::{AREAS, EACH, row, width};
-use libc::{STDIN_FILENO, STDOUT_FILENO};
+
+// Standard input and standard output, as the system numbers them.
+const STDIN_FILENO: i32 = 0;
+
+const STDOUT_FILENO: i32 = 1;
 
 // The most bytes that are listed.
 const MOST: usize = 65536;

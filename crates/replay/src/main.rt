@@ -2,12 +2,18 @@
 // The data is a row of records, 32-bit little-endian numbers throughout: the blob's length, its bytes (zeros behind them up to a multiple
 // of four), code, field, place, first (low, high), second (low, high), a count for each list, and all words of the lists.
 // Blobs, numbers of an answer and lent words are counted from 0.
+#![tactic(auto)]
+
 ghost use Rattle.std.specs.Prelude.{◌≡◌, ◌+◌, ◌*◌, ◌≤◌, ◌<◌, length};
 ghost use Rattle.format.specs.Area.{AREAS, WIDEST};
 ghost use Rattle.replay.specs.Off.{off};
 
 use format::list::{AREAS, WIDEST};
-use libc::{STDIN_FILENO, STDOUT_FILENO};
+
+// Standard input and standard output, as the system numbers them.
+const STDIN_FILENO: i32 = 0;
+
+const STDOUT_FILENO: i32 = 1;
 
 // The capacity of each list.
 const CAPACITY: u32 = 64;
