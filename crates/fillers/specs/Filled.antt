@@ -22,7 +22,7 @@ use Rattle.format.specs.steps.Parts.{Counted, TablesRoom, TablesStored, table_pa
 use Rattle.format.specs.declared.Header.{Header}
 use Rattle.counts.specs.Short.{kind_row}
 use Rattle.fillers.specs.declared.Trailing.{Trailing}
-use Rattle.fillers.specs.Rows.{only, holds_definitions, has_entries, trailing_of, definitions-in, events-in, maps-in, templates_in, table-words, table-behind}
+use Rattle.fillers.specs.Rows.{only, holds_definitions, has_entries, trailing_of, definitions-in, events-in, maps-in, templates-in, table-words, table-behind}
 
 -- tables that have definitions have records
 pub definitions-stride : (k : ℕ) → 1 ≤ k → k ≤ 8 → holds_definitions k ≡ true → 12 ≤ stride k
@@ -130,7 +130,7 @@ module _ (k at : ℕ) (h : Header) (s : List ℕ) (v : verdict (run (table_at k 
   pub fills_templates : k ≡ TTBL → Fills TEMPLATES template_words (run (templates_at at h) s)
   unfolding table_part
   fills_templates q =
-      let x = templates_in k at h s here (fine-value found v).1 q in
+      let x = templates-in k at h s here (fine-value found v).1 q in
       plain TEMPLATES template_words templates_in (λ n t. refl) (λ n before. refl) (λ before. refl) _ x.0 x.1
 
   -- list 8: the entries of maps
@@ -178,7 +178,7 @@ module _ (k at : ℕ) (h : Header) (s : List ℕ) (v : verdict (run (table_at k 
       → TablesStored ITEMS n before (only found) area m (more TEMPLATES h.count before) area')
   unfolding table_part
   fills_items q n before area r =
-      let x = templates_in k at h s here (fine-value found v).1 q in
+      let x = templates-in k at h s here (fine-value found v).1 q in
       let long = items-words (of TEMPLATES before) (templates_in here.rows) in
       let counts = ap (λ m. more TEMPLATES m before) x.1 in
       rw x.0 (

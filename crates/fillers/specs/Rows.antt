@@ -114,8 +114,8 @@ module _ (k at : ℕ) (h : Header) (s : List ℕ) (t : Table) where
     pub maps-in : k ≡ MAPS → (run (maps_at at h) s ≡ done (maps_in t.rows)) × (length (maps_in t.rows) ≡ h.count)
     maps-in q = let x = are_maps s k at h t e q in rw x.2 (x.1, rw x.2 at (told s k at h t e).count)
 
-    pub templates_in : k ≡ TTBL → (run (templates_at at h) s ≡ done (templates_in t.rows)) × (length (templates_in t.rows) ≡ h.count)
-    templates_in q = let x = are_templates s k at h t e q in rw x.2 (x.1, rw x.2 at (told s k at h t e).count)
+    pub templates-in : k ≡ TTBL → (run (templates_at at h) s ≡ done (templates_in t.rows)) × (length (templates_in t.rows) ≡ h.count)
+    templates-in q = let x = are_templates s k at h t e q in rw x.2 (x.1, rw x.2 at (told s k at h t e).count)
 
     -- list 4: the table itself
     module _ (one : 1 ≤ k) (most : k ≤ 8) where

@@ -1,0 +1,26 @@
+-- The invariant: what is left decides. The rest, laid from here, makes the area what it shall be, and the rest is fine.
+use Prim.Native.Nat.{◌+◌, ◌*◌, ◌≤◌}
+use mathlib.Core.Path.{◌≡◌, refl, sym, ◌∙◌}
+use native.Mathlib.Omega.{arith}
+use borrow.Author.Rules.{rules}
+use lib.ListN.{length}
+use Rattle.blob.specs.declared.Verdict.TheVariants as verdicts
+use Rattle.blob.specs.Reading.{run, many, verdict}
+use Rattle.blob.specs.Laws.{many_more, rest, rest_more, rest-none}
+use Rattle.format.specs.Area.{DESCRIPTORS, width}
+use Rattle.format.specs.Definition.{step}
+use Rattle.format.specs.Lists.{descriptor_words}
+use Rattle.format.specs.Provider.{descriptor_at}
+use Rattle.element.specs.Elements.{next-described}
+use Rattle.fillers.proofs.fill_descriptors.Given as goal
+
+abbrev pub invariant-loop-left : goal.invariant-loop-left
+invariant-loop-left l =
+    (l.at + 8 * l.left ≤ length l.b)
+    × (l.to + width DESCRIPTORS * l.left ≡ width DESCRIPTORS * l.n)
+    × (length l.area ≡ length l.initial.area)
+    × (verdict (run (many descriptor_at (step 8) l.left l.at) l.b) ≡ verdicts.Fine)
+    × (rest descriptor_at (step 8) descriptor_words l.b l.initial.area l.n l.start 0 ≡ rest descriptor_at (step 8) descriptor_words l.b l.area l.left l.at l.to)
+
+abbrev pub decreases-loop-left : goal.decreases-loop-left
+decreases-loop-left l = l.left

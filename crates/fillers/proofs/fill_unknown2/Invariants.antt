@@ -1,0 +1,25 @@
+-- The invariant: what is left decides. A word is never refused, so the rest is fine.
+use Prim.Native.Nat.{ℕ, ◌+◌, ◌*◌, ◌≤◌}
+use mathlib.Core.Path.{◌≡◌, refl, ap, sym, ◌∙◌}
+use mathlib.Core.List.{List, [], ◌∷◌}
+use native.Mathlib.Omega.{arith}
+use borrow.Author.Rules.{rules}
+use lib.ListN.{length}
+use Rattle.blob.specs.declared.Verdict.TheVariants as verdicts
+use Rattle.blob.specs.Reading.{run, number, many, verdict}
+use Rattle.blob.specs.Laws.{finds-number, many-fine, rest, rest_more, rest-none}
+use Rattle.blob.specs.Laid.{laid}
+use Rattle.format.specs.Area.{UNKNOWN2, width}
+use Rattle.format.specs.Definition.{step}
+use Rattle.format.specs.Lists.{unknown2_words}
+use Rattle.fillers.proofs.fill_unknown2.Given as goal
+
+abbrev pub invariant-loop-left : goal.invariant-loop-left
+invariant-loop-left l =
+    (l.at + 4 * l.left ≤ length l.b)
+    × (l.to + width UNKNOWN2 * l.left ≡ width UNKNOWN2 * l.n)
+    × (length l.area ≡ length l.initial.area)
+    × (rest (number 4) (step 4) unknown2_words l.b l.initial.area l.n l.start 0 ≡ rest (number 4) (step 4) unknown2_words l.b l.area l.left l.at l.to)
+
+abbrev pub decreases-loop-left : goal.decreases-loop-left
+decreases-loop-left l = l.left

@@ -1,0 +1,18 @@
+-- The header's tests, one by one.
+use mathlib.Core.Path.{sym, ◌∙◌}
+use native.Mathlib.Omega.{arith}
+use borrow.Author.Rules.{rules}
+use Rattle.blob.specs.Laws.{answer-found, answer-refused}
+use Rattle.format.specs.declared.WevtRead.TheVariants as read
+use Rattle.provider.specs.Wevt.{wevt_past, wevt_short, wevt_other, wevt_found}
+use Rattle.provider.proofs.wevt_at.Goals as goal
+
+pub returns-then-found-ne-WEVT : goal.returns-then-found-ne-WEVT
+returns-then-found-ne-WEVT c =
+    let w = c.word-found.ensures in
+    answer-refused read.Wevt read.Refused _ _ _ (rw (← w) c.wrong_signature.ensures) (wevt_other _ _ (omega arith) (λ e. c.if-found-ne-WEVT.true (w ∙ e)))
+
+pub returns : goal.returns
+returns c =
+    answer-found read.Wevt read.Refused _ _ _ (rw (c.word-4.ensures, c.word-3.ensures, c.word-2.ensures, c.word.ensures))
+    (wevt_found _ _ (omega arith) (sym c.word-found.ensures ∙ c.if-found-ne-WEVT.false))
