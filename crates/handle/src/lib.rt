@@ -1,5 +1,6 @@
-// The reading handle, and the calls that show a template's BinXML. No function over a struct that holds a slice is covered: `new` and
-// `binxml` are proved by hand, and leave the work to `shown`, which takes plain bytes.
+// The reading handle, and the calls that show a template's BinXML.
+#![tactic(auto)]
+
 ghost use Rattle.std.specs.Prelude.{◌≡◌};
 ghost use Rattle.format.specs.Handle.{AllowedPart};
 

@@ -1,5 +1,6 @@
-// Event structs against a key. A slice of structs is not covered: `has_key_at` is proved by hand, and leaves the work to `has_key`, which
-// takes the event by value.
+// Event structs against a key.
+#![tactic(auto)]
+
 ghost use Rattle.std.specs.Prelude.{◌≡◌, [], map, ◌<◌, length, get_or};
 ghost use Rattle.format.specs.Lists.{event_words};
 ghost use Rattle.format.specs.Lookup.{keyed};

@@ -1,4 +1,6 @@
 // Finding a template in the lists of a reading: by its offset, or by an event's key. Nothing is kept but a mark for each template.
+#![tactic(auto)]
+
 ghost use Rattle.std.specs.Prelude.{◌≡◌, true, ◌+◌, ◌*◌, ◌/◌, ◌≤◌, ◌<◌, min, length};
 ghost use Rattle.blob.specs.Reading.{choose};
 ghost use Rattle.blob.specs.Laid.{laid, flat};
