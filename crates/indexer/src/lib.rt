@@ -143,7 +143,7 @@ fn within(identifier: u32, version: u32, channel: u32, level: u32, opcode: u32, 
 }
 
 // The same of the event at a place.
-fn fields_fit_lem(words: &[u32], at: usize) -> bool
+fn fields_fit(words: &[u32], at: usize) -> bool
     requires { at + area.width area.EVENTS ≤ length words.now }
     ensures { result ≡ right.fields_fit (spec.event_at words.now at) }
 {
@@ -165,7 +165,7 @@ fn all_fit(words: &[u32], start: usize, count: u32) -> bool
     let mut at = start;
     let mut left = count;
     while 0 < left {
-        if !fields_fit_lem(words, at) {
+        if !fields_fit(words, at) {
             return false;
         }
         at += width::EVENTS;

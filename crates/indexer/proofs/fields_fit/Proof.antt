@@ -2,8 +2,8 @@
 use mathlib.Core.Path.{sym, ◌∙◌}
 use Rattle.indexer.specs.Event.{fields_fit_lem}
 use borrow.Author.Rules.{rules}
-use Rattle.indexer.proofs.fields_fit_lem.Statement.{statement}
-use Rattle.indexer.proofs.fields_fit_lem.Tie as tie
+use Rattle.indexer.proofs.fields_fit.Statement.{statement}
+use Rattle.indexer.proofs.fields_fit.Tie as tie
 
 returns : tie.Need-returns
 returns c =
