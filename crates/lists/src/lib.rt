@@ -1,5 +1,7 @@
 // Lists that were read, over the lent words, capacities and counts of a reading: whether they fit together, where an entry stands, what
 // is found among entries, and which provider an event belongs to. Nothing here knows the bytes that were read.
+#![tactic(auto)]
+
 ghost use Rattle.std.specs.Prelude.{◌≡◌, true, ◌&&◌, [], ◌∷◌, ◌+◌, ◌*◌, ◌≤◌, ◌<◌, leb, ltb, length, take, drop, get_or};
 ghost use Rattle.format.specs.Area as area;
 ghost use Rattle.format.specs.Answer as answer;
@@ -162,7 +164,7 @@ fn table_word(words: &[u32], at: usize, i: usize) -> u32
 }
 
 // Whether a table entry names such.
-fn table_fits_lem(words: &[u32], at: usize, c: [u32; AREAS]) -> bool
+fn table_fits(words: &[u32], at: usize, c: [u32; AREAS]) -> bool
     requires { at + area.width area.TABLES ≤ length words.now }
     ensures { result ≡ right.table_fits c (take (area.width area.TABLES) (drop at words.now)) }
 {
@@ -227,7 +229,7 @@ fn tables_fit(words: &[u32], capacities: [u32; AREAS], counts: [u32; AREAS]) -> 
     let mut at = counts::area_at(capacities, row::TABLES);
     let mut left = counts[row::TABLES];
     while 0 < left {
-        if !table_fits_lem(words, at, counts) {
+        if !table_fits(words, at, counts) {
             return false;
         }
         if !table_owns(words, at, templates) {
