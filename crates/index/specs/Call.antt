@@ -1,5 +1,5 @@
 -- What a call over the C boundary finds of an index, and what the lent numbers then hold; the lent bytes or words hold what `held` says.
-use Rattle.std.specs.Prelude.{ℕ, ◌≡◌, ◌&&◌, List, [], ◌∷◌, length, get_or, eqb}
+use Rattle.std.specs.Prelude.{ℕ, ◌≡◌, ◌&&◌, List, [], ◌∷◌, get_or, eqb}
 use Rattle.blob.specs.Reading.{Outcome, done, refused, choose}
 use Rattle.format.specs.Answer.{own}
 use Rattle.format.specs.Says as says

@@ -1,4 +1,6 @@
 // The event index, read back: all bytes are tested, then the words are given.
+#![tactic(auto)]
+
 ghost use Rattle.std.specs.Prelude.{◌≡◌, true, ◌+◌, ◌≤◌, length};
 ghost use Rattle.blob.specs.Laid.{laid, flat};
 ghost use Rattle.format.specs.Answer.{too_small};
@@ -211,7 +213,7 @@ fn give_number(words: &mut [u32], to: usize, width: u64, number: u64) -> usize
 
 // Gives the words of a row that was passed.
 fn give_row(bytes: &[u8], at: usize, widths: &[u64], words: &mut [u32], to: usize) -> Place
-    requires widths_value { spec.sound widths.now ≡ true }
+    requires sound { spec.sound widths.now ≡ true }
     requires row_stands { spec.RowStands widths.now bytes.now at to (length words.old) }
     ensures { spec.RowGiven widths.now bytes.now at words.old to result words.new }
 {
@@ -232,7 +234,7 @@ fn give_row(bytes: &[u8], at: usize, widths: &[u64], words: &mut [u32], to: usiz
 
 // Gives those of n such rows.
 fn give_rows(bytes: &[u8], at: usize, widths: &[u64], n: u32, words: &mut [u32], to: usize) -> Place
-    requires widths_value { spec.sound widths.now ≡ true }
+    requires sound { spec.sound widths.now ≡ true }
     requires rows_stand { spec.RowsStand n widths.now bytes.now at to (length words.old) }
     ensures { spec.RowsGiven n widths.now bytes.now at words.old to result words.new }
 {
@@ -254,7 +256,7 @@ fn give_counted(
     words: &mut [u32],
     to: usize,
 ) -> Place
-    requires widths_value { spec.sound widths.now ≡ true }
+    requires sound { spec.sound widths.now ≡ true }
     requires counted_stands { spec.CountedStands n widths.now bytes.now at to (length words.old) }
     ensures { spec.CountedGiven widths.now bytes.now at words.old to result words.new }
 {

@@ -80,7 +80,9 @@ module _ (counts : List ℕ) (tables templates : List Entry) (t : tables_fit cou
   before_kept : (owners : List ℕ) (i j : ℕ) (es : List Entry) → j < i → get_or (resolved_from tables templates owners i es) j 0 ≡ get_or owners j 0
   unfolding resolved_from
   before_kept owners i j [] h = refl
-  before_kept owners i j (e ∷ es) h = before_kept _ (i + 1) j es (omega arith) ∙ get_or-set_other owners i j _ 0 (λ x. omega arith)
+  before_kept owners i j (e ∷ es) h =
+      let w = choose (finds tables templates e (get_or owners i 0)) (get_or owners i 0) NOBODY in
+      before_kept (set owners i w) (i + 1) j es (omega arith) ∙ get_or-set_other owners i j w 0 (λ x. omega arith)
 
   left-found : (e : Entry) (p : ℕ) → mine (choose (finds tables templates e p) p NOBODY) e ≡ map (λ q. q ∷ e) (choose (finds tables templates e p) (p ∷ []) [])
   left-found e p = go (finds tables templates e p) refl

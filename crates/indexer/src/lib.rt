@@ -1,4 +1,6 @@
 // The event index, written from the lists of a reading: first all is tested and measured, then the bytes are stored.
+#![tactic(auto)]
+
 ghost use Rattle.std.specs.Prelude.{◌≡◌, true, [], ◌∷◌, ◌+◌, ◌*◌, ◌≤◌, length};
 ghost use Rattle.blob.specs.Reading.{choose};
 ghost use Rattle.blob.specs.Laid.{laid, flat};
@@ -105,7 +107,7 @@ fn size_counts(words: &[u32], start: usize, count: u32) -> usize
 // Stores them; hands back the place behind them.
 fn put_counts(bytes: &mut [u8], from: usize, words: &[u32], start: usize, count: u32) -> usize
     requires stand { spec.stand (area.width area.PROVIDERS) count start words.now }
-    requires start_in_bounds { from + length (spec.count_bytes words.now count start) ≤ length bytes.old }
+    requires room { from + length (spec.count_bytes words.now count start) ≤ length bytes.old }
     ensures value { result ≡ from + length (spec.count_bytes words.now count start) }
     ensures bytes_after { bytes.new ≡ laid bytes.old from (spec.count_bytes words.now count start) }
 {
@@ -143,7 +145,7 @@ fn within(identifier: u32, version: u32, channel: u32, level: u32, opcode: u32, 
 }
 
 // The same of the event at a place.
-fn fields_fit_lem(words: &[u32], at: usize) -> bool
+fn fields_fit(words: &[u32], at: usize) -> bool
     requires { at + area.width area.EVENTS ≤ length words.now }
     ensures { result ≡ right.fields_fit (spec.event_at words.now at) }
 {
@@ -165,7 +167,7 @@ fn all_fit(words: &[u32], start: usize, count: u32) -> bool
     let mut at = start;
     let mut left = count;
     while 0 < left {
-        if !fields_fit_lem(words, at) {
+        if !fields_fit(words, at) {
             return false;
         }
         at += width::EVENTS;
@@ -286,7 +288,7 @@ fn size_entry(words: &[u32], at: usize, owner: u32) -> usize
 // Stores them; hands back the place behind them.
 fn put_entry(bytes: &mut [u8], to: usize, words: &[u32], at: usize, owner: u32) -> usize
     requires events_in_bounds { at + area.width area.EVENTS ≤ length words.now }
-    requires at_in_bounds { to + length (spec.formed (spec.mine owner (spec.event_at words.now at))) ≤ length bytes.old }
+    requires room { to + length (spec.formed (spec.mine owner (spec.event_at words.now at))) ≤ length bytes.old }
     ensures value { result ≡ to + length (spec.formed (spec.mine owner (spec.event_at words.now at))) }
     ensures bytes_after { bytes.new ≡ laid bytes.old to (spec.formed (spec.mine owner (spec.event_at words.now at))) }
 {
@@ -327,7 +329,7 @@ fn put_entries(
     owners: &[u32; 65536],
 )
     requires stand { spec.stand (area.width area.EVENTS) count start words.now }
-    requires start_in_bounds { from + length (spec.formed (spec.listed_at owners.now words.now 0 count start)) ≤ length bytes.old }
+    requires room { from + length (spec.formed (spec.listed_at owners.now words.now 0 count start)) ≤ length bytes.old }
     ensures { bytes.new ≡ laid bytes.old from (spec.formed (spec.listed_at owners.now words.now 0 count start)) }
 {
     let mut at = start;
@@ -378,7 +380,7 @@ fn put_index(
     bytes: &mut [u8],
 )
     requires fit { lists.Fit words.now capacities counts × (found ≡ length (spec.listed words.now capacities counts owners.now)) }
-    requires owners_in_bounds { length (right.written (spec.index_by words.now capacities counts owners.now)) ≤ length bytes.old }
+    requires room { length (right.written (spec.index_by words.now capacities counts owners.now)) ≤ length bytes.old }
     ensures { bytes.new ≡ laid bytes.old 0 (right.written (spec.index_by words.now capacities counts owners.now)) }
 {
     let providers = counts::area_at(capacities, row::PROVIDERS);

@@ -1,5 +1,5 @@
 -- "What was written reads back the same" (request 05).
-use Rattle.std.specs.Prelude.{ℕ, ◌≤◌, ◌≡◌, refl, List, ◌++◌, length}
+use Rattle.std.specs.Prelude.{ℕ, ◌≤◌, ◌≡◌, refl, List, ◌∷◌, ◌++◌, length}
 use Rattle.std.proofs.Common.{arith, eq-eqb}
 use Rattle.blob.specs.Reading.{done, then}
 use Rattle.blob.specs.Laid.{flat, flat_append}
@@ -20,7 +20,7 @@ pub record Writable (i : Index) : Type 0 where
 pub written-parts : (i : Index)
     → written i ≡ form EDITION ++ (form (length i.counts) ++ (flat form i.counts ++ (form (length i.entries) ++ flat form (flat (λ e. e) i.entries))))
 unfolding flat
-written-parts i = rw flat_append refl
+written-parts i = rw (flat_append form i.counts (length i.entries ∷ flat (λ e. e) i.entries)) refl
 
 reads : (bytes : List ℕ) (i : Index) → Writable i → Lies bytes 0 (written i) (length bytes) → index bytes ≡ done i
 unfolding index then

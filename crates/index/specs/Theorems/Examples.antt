@@ -1,6 +1,6 @@
 -- Small indexes, computed: each sort of refusal at its place, what is read, and what is written.
-use Rattle.std.specs.Prelude.{ℕ, ◌≡◌, refl, List, [], ◌∷◌, ◌++◌, map, length, replicate}
-use Rattle.blob.specs.Reading.{Outcome, done, refused, then}
+use Rattle.std.specs.Prelude.{ℕ, ◌≡◌, refl, List, [], ◌∷◌, ◌++◌, map, replicate}
+use Rattle.blob.specs.Reading.{done, refused, then}
 use Rattle.blob.specs.Laid.{flat}
 use Rattle.number.specs.Number.{form_of, upto, ended, value, last_or, fault, number_at}
 use Rattle.format.specs.Answer.{too_small}

@@ -1,16 +1,16 @@
 -- Both calls together: what `write` leaves in the lent bytes, `read` gives as the words of the lists' index, where so many words are lent.
 use Prim.Native.Nat.{ℕ, ◌≤◌, ◌<◌}
-use Rattle.std.specs.Prelude.{◌≡◌, true, length, take, leb}
+use Rattle.std.specs.Prelude.{◌≡◌, length, take, leb}
 use Rattle.std.proofs.Math.Path.{refl}
-use Rattle.std.proofs.Common.{ap, sym, ◌∙◌, arith, leb-true, le-leb}
+use Rattle.std.proofs.Common.{ap, ◌∙◌, arith, leb-true, le-leb}
 use mathlib.Core.List.{List}
-use Rattle.blob.specs.Reading.{Outcome, done, refused, choose, then}
+use Rattle.blob.specs.Reading.{Outcome, done, refused, then}
 use Rattle.blob.specs.Laws.{same, choose-done}
 use Rattle.blob.specs.Laid.{laid}
 use Rattle.blob.specs.Places.{Each}
 use Rattle.format.specs.Answer.{lent_enough}
 use Rattle.format.specs.Theorems.Taken.{laid-here}
-use Rattle.index.specs.Index.{index, words as words_of, written, with_room, reading, index_of, together, writing, given, held, AllowedRead, AllowedWrite}
+use Rattle.index.specs.Index.{words as words_of, written, reading, index_of, together, writing, given, held, AllowedRead, AllowedWrite}
 use Rattle.index.specs.declared.IndexAnswer.{IndexAnswer}
 use Rattle.index.specs.declared.IndexAnswer.TheVariants as answers
 use Rattle.indexer.specs.Theorems.Lists.{lists_back}
