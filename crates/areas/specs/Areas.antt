@@ -6,7 +6,7 @@ use mathlib.Core.List.{List, [], ◌∷◌, map}
 use Rattle.std.proofs.Math.ListN.{get_or, get_or-map}
 use Rattle.blob.specs.Reading.{Reading, done, run, many, values}
 use Rattle.blob.specs.Laid.{laid, flat}
-use Rattle.blob.specs.Laws.{both, choose-done}
+use Rattle.blob.proofs.Laws.{both, choose-done}
 use Rattle.format.specs.Area.{Row, rows, AREAS, none}
 use Rattle.format.specs.Definition.{step}
 use Rattle.format.specs.Provider.{Provider}
@@ -14,10 +14,10 @@ use Rattle.format.specs.Crim.{described_at}
 use Rattle.format.specs.Lists.{Entry, lists}
 use Rattle.format.specs.Answer.{moderate, areas, lent_enough, with_room, counted, filled, capped}
 use Rattle.format.specs.steps.Needs.{needs_all}
-use Rattle.format.specs.Theorems.Needed.{needed}
+use Rattle.format.proofs.Theorems.Needed.{needed}
 use Rattle.format.specs.steps.Parts as parts
-use Rattle.format.specs.Theorems.Fits.{parts-wide, list-few}
-use Rattle.format.specs.Theorems.Listed.{listed}
+use Rattle.format.proofs.Theorems.Fits.{parts-wide, list-few}
+use Rattle.format.proofs.Theorems.Listed.{listed}
 use Rattle.counts.specs.Short.{widths, numbers, drop_more}
 
 -- n providers, and what is read of them

@@ -7,14 +7,14 @@ use Rattle.blob.specs.declared.Refusal.{Refusal}
 use Rattle.blob.specs.declared.Verdict.TheVariants as verdicts
 use Rattle.blob.specs.Reading.{Outcome, done, refused, run, many, verdict, values}
 use Rattle.blob.specs.Laid.{flat}
-use Rattle.blob.specs.Laws.{not_fine, many-empty, many-stop, many_more, values-more}
+use Rattle.blob.proofs.Laws.{not_fine, many-empty, many-stop, many_more, values-more}
 use Rattle.format.specs.Definition.{step}
 use Rattle.format.specs.Provider.{Provider}
 use Rattle.format.specs.Crim.{described_at}
 use Rattle.format.specs.Lists.{kept}
 use Rattle.format.specs.steps.Parts.{Counted, Room, parts, passed_all}
-use Rattle.format.specs.Theorems.Grows.{passed_all-tables}
-use Rattle.format.specs.Theorems.Stored.{Left, left-room, left-more, few-before}
+use Rattle.format.proofs.Theorems.Grows.{passed_all-tables}
+use Rattle.format.proofs.Theorems.Stored.{Left, left-room, left-more, few-before}
 use Rattle.provided.specs.Provided.{part_by, passed_by, ProviderRoom, ProviderStored}
 
 module _ (s : List ℕ) (left at : ℕ) (h : 0 < left) (v : verdict (run (many described_at (step 20) left at) s) ≡ verdicts.Fine) where

@@ -4,7 +4,7 @@ use Rattle.std.specs.Prelude.{ℕ, zero, suc, ◌+◌, ◌*◌, ◌≤◌, ◌<�
 use Rattle.std.proofs.Common.{mul-le-mul, suc-add, add_assoc, add-zero, arith, ap, sym, ◌∙◌, drop_of_length-le, le-leb, leb-true, ltb-true, eqb-true, ne_eqb}
 use Rattle.std.proofs.lemmas.Bool.{lt-leb}
 use Rattle.blob.specs.Places.{Each}
-use Rattle.blob.specs.Laws.{both, passes}
+use Rattle.blob.proofs.Laws.{both, passes}
 use Rattle.blob.specs.Reading.{choose}
 use Rattle.blob.specs.declared.Verdict.{Verdict}
 use Rattle.blob.specs.declared.Verdict.TheVariants as verdicts

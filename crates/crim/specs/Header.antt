@@ -5,7 +5,7 @@ use Rattle.std.proofs.Math.ListN.{length}
 use borrow.Author.Tests.{eq-eqb, ne_eqb, le-leb, lt-leb}
 use Rattle.blob.specs.Le.{le}
 use Rattle.blob.specs.Reading.{done, refused, run}
-use Rattle.blob.specs.Laws.{run-number, run_room, run_past, run_holds, run-fails, run-got}
+use Rattle.blob.proofs.Laws.{run-number, run_room, run_past, run_holds, run-fails, run-got}
 use Rattle.format.specs.Field.{CRIM_signature, CRIM_size, CRIM_major_version, CRIM_minor_version, CRIM_provider_count}
 use Rattle.format.specs.Refuse.{truncated, wrong_signature, size_out}
 use Rattle.format.specs.Crim.{CRIM, header}

@@ -5,9 +5,9 @@ use Rattle.std.proofs.Common.{ap, sym, ◌∙◌, add_comm, mul-suc, arith}
 use Rattle.std.proofs.Math.Bool.{true, false}
 use Rattle.blob.specs.Le.{le}
 use Rattle.blob.specs.Reading.{Reading, Outcome, done, refused, choose, run, many, verdict}
-use Rattle.blob.specs.Laws.{fine-value, refused-value, bind_fine, run-number, run-after, run-stopped}
+use Rattle.blob.proofs.Laws.{fine-value, refused-value, bind_fine, run-number, run-after, run-stopped}
 use Rattle.format.specs.Region.{blob_end, until}
-use Rattle.format.specs.Theorems.Until.{name-until}
+use Rattle.format.proofs.Theorems.Until.{name-until}
 use Rattle.table.specs.Headers.{no, of-kinds}
 use Rattle.words.specs.Guid.{guid-found}
 use Rattle.format.specs.Name.{absent, name_at}

@@ -7,7 +7,7 @@ use Rattle.blob.specs.Laid.{laid, laid-between}
 use Rattle.blob.specs.Reading.{refused, choose}
 use Rattle.format.specs.Area.{AREAS}
 use Rattle.format.specs.Answer.{answer, needing, held, own}
-use Rattle.format.specs.Theorems.Determined.{needs_refused}
+use Rattle.format.proofs.Theorems.Determined.{needs_refused}
 use Rattle.format.specs.Call.{misfit, each_row}
 
 -- numbers laid into as many are all that is there

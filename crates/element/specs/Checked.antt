@@ -7,12 +7,12 @@ use Rattle.blob.specs.declared.Refusal.{Refusal}
 use Rattle.blob.specs.declared.Verdict.{Verdict}
 use Rattle.blob.specs.declared.Verdict.TheVariants as verdicts
 use Rattle.blob.specs.Reading.{Reading, got, Outcome, done, refused, run, ◌>>=◌, then, verdict}
-use Rattle.blob.specs.Laws.{run-number, run_room, run_past, run-got, run_bind, run-after, run-stopped, fine-done}
+use Rattle.blob.proofs.Laws.{run-number, run_room, run_past, run-got, run_bind, run-after, run-stopped, fine-done}
 use Rattle.event.specs.Events.{events-fine}
 use Rattle.format.specs.Field.{unknown_element_header, unknown_element_end}
 use Rattle.format.specs.Refuse.{offset_out, truncated}
 use Rattle.format.specs.Region.{end_read}
-use Rattle.format.specs.Theorems.Ends.{is_place, no_end}
+use Rattle.format.proofs.Theorems.Ends.{is_place, no_end}
 use Rattle.format.specs.Table.{EVNT, MAPS, TTBL, header_length, stride, header_at, header_read, table_end}
 use Rattle.format.specs.Definition.{definitions_at}
 use Rattle.format.specs.Template.{templates_at}

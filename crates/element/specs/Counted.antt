@@ -27,8 +27,8 @@ use Rattle.element.specs.Tables.{Kept, kind-most, is_unknown, is_table, kept-one
 use Rattle.element.specs.Elements.{from-none, from-stop, from_told, last_or}
 use Rattle.element.specs.Places.{nowhere, noted, placed, known, noted-known, Standing, standing}
 use Rattle.element.specs.Sums.{grown_all, grown-all}
-use Rattle.format.specs.Theorems.Needed.{total-length, after-all}
-use Rattle.blob.specs.Laws.{not_fine, fine-value}
+use Rattle.format.proofs.Theorems.Needed.{total-length, after-all}
+use Rattle.blob.proofs.Laws.{not_fine, fine-value}
 
 -- how many entries a table's entries have, as far as they are counted
 abbrev pub held : Table → ℕ

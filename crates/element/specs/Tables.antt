@@ -13,8 +13,8 @@ use borrow.Author.Tests.{eqb-true, eqb-false, ne_eqb}
 use Rattle.blob.specs.Le.{le}
 use Rattle.blob.specs.declared.Verdict.TheVariants as verdicts
 use Rattle.blob.specs.Reading.{Reading, got, done, choose, run, ◌>>=◌, many, each, verdict, values}
-use Rattle.blob.specs.Laws.{then-done, run_bind, run-got, run-number, same, fine-done, many-count, each-done}
-use Rattle.blob.specs.Finds.{Finds, finds-got, finds-room, finds-choose, finds-demand, finds_bind, finds-next}
+use Rattle.blob.proofs.Laws.{then-done, run_bind, run-got, run-number, same, fine-done, many-count, each-done}
+use Rattle.blob.proofs.Finds.{Finds, finds-got, finds-room, finds-choose, finds-demand, finds_bind, finds-next}
 use Rattle.format.specs.Table.{EVNT, MAPS, TTBL, kinds, kind_of, kind_list, header_length, stride, header_at, table_end}
 use Rattle.format.specs.Definition.{definitions_at, step}
 use Rattle.format.specs.Event.{event_at}
@@ -23,8 +23,8 @@ use Rattle.format.specs.Map.{Mapped, maps_at}
 use Rattle.format.specs.Provider.{definitions, events, maps, templates, Table, Element, table, unknown, plain, events_at, table_at, unknown_at, element_of, element_at, elements_from}
 use Rattle.format.specs.Area.{DEFINITIONS}
 use Rattle.format.specs.Lists.{last_of, or_else, list_of, row_count, maps_in, templates_in}
-use Rattle.format.specs.Theorems.Listed.{first}
-use Rattle.format.specs.Theorems.Rested.{kind-cases}
+use Rattle.format.proofs.Theorems.Listed.{first}
+use Rattle.format.proofs.Theorems.Rested.{kind-cases}
 use Rattle.format.specs.declared.Header.{Header}
 use Rattle.format.specs.declared.Definition.{Definition}
 use Rattle.format.specs.declared.Event.{Event}

@@ -2,7 +2,7 @@
 use Rattle.std.specs.Prelude.{ℕ, ◌+◌, ◌≡◌, List}
 use Rattle.blob.specs.Le.{le}
 use Rattle.blob.specs.Reading.{done, run, many, verdict}
-use Rattle.blob.specs.Laws.{run-number, many-fine}
+use Rattle.blob.proofs.Laws.{run-number, many-fine}
 use Rattle.blob.specs.declared.Verdict.TheVariants as verdicts
 use Rattle.format.specs.Definition.{step}
 use Rattle.format.specs.Event.{event_at}

@@ -7,7 +7,7 @@ use borrow.Author.Tests.{ne_eqb}
 use Rattle.blob.specs.declared.Verdict.TheVariants as verdicts
 use Rattle.blob.specs.Reading.{Outcome, done, refused, run, many, verdict, values}
 use Rattle.blob.specs.Laid.{flat, flat_append, flat_map, laid}
-use Rattle.blob.specs.Laws.{fine-value, length-flat}
+use Rattle.blob.proofs.Laws.{fine-value, length-flat}
 use Rattle.format.specs.Area as list
 use Rattle.format.specs.Area.{TABLES, DEFINITIONS, EVENTS, ENTRIES, TEMPLATES, ITEMS, AREAS, place, of, more, width}
 use Rattle.format.specs.Table.{EVNT, MAPS, TTBL, kind_list, stride}

@@ -9,7 +9,7 @@ use Rattle.std.proofs.lemmas.Bool.{eqb-false}
 use Rattle.blob.specs.Le.{le}
 use Rattle.blob.specs.declared.Verdict.TheVariants as verdicts
 use Rattle.blob.specs.Reading.{done, choose, run, verdict, values}
-use Rattle.blob.specs.Laws.{fine-value}
+use Rattle.blob.proofs.Laws.{fine-value}
 use Rattle.blob.specs.Places.{Each}
 use Rattle.blob.specs.Laid.{flat, laid}
 use Rattle.format.specs.Area as area
@@ -19,8 +19,8 @@ use Rattle.format.specs.Provider.{Table, Element, table_at, elements_from}
 use Rattle.format.specs.Lists.{last_of, definitions_in, events_in, maps_in, templates_in, map_list, item_list}
 use Rattle.format.specs.steps.Needs.{total, place_of}
 use Rattle.format.specs.steps.Parts.{Counted, Room, TablesRoom, TablesStored, behind, behind_all, table_part, table_parts}
-use Rattle.format.specs.Theorems.Grows.{set_same, behind_all-append}
-use Rattle.format.specs.Theorems.Stored.{Left, left-room, left-more, table_parts_append, few-before}
+use Rattle.format.proofs.Theorems.Grows.{set_same, behind_all-append}
+use Rattle.format.proofs.Theorems.Stored.{Left, left-room, left-more, table_parts_append, few-before}
 use Rattle.format.specs.declared.Header.{Header}
 use Rattle.element.specs.Kinds.{kept_here, kept-nowhere, kept_from, kept_more}
 use Rattle.fillers.specs.Rows.{only, holds_definitions, has_entries, Shape, of-events, of-maps, of-templates, of-definitions, shape}

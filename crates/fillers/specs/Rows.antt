@@ -6,7 +6,7 @@ use Rattle.std.proofs.lemmas.Bool.{eqb-false}
 use Rattle.blob.specs.Le.{le}
 use Rattle.blob.specs.declared.Refusal.{Refusal}
 use Rattle.blob.specs.Reading.{Outcome, done, refused, choose, run, many, answer}
-use Rattle.blob.specs.Laws.{never, same}
+use Rattle.blob.proofs.Laws.{never, same}
 use Rattle.format.specs.Area as area
 use Rattle.format.specs.Area.{TABLES, DEFINITIONS, EVENTS, ENTRIES, of, more}
 use Rattle.format.specs.Table.{EVNT, MAPS, TTBL, kind_list, header_length, table_end}

@@ -11,7 +11,7 @@ use Rattle.blob.specs.Le.{le}
 use Rattle.blob.specs.declared.Verdict.TheVariants as verdicts
 use Rattle.blob.specs.Reading.{done, run, verdict, values, choose}
 use Rattle.blob.specs.Laid.{laid, laid_more, flat}
-use Rattle.blob.specs.Laws.{same}
+use Rattle.blob.proofs.Laws.{same}
 use Rattle.format.specs.Area.{UNKNOWN, width}
 use Rattle.format.specs.Table.{kind_of}
 use Rattle.format.specs.Provider.{Element, descriptor_at, elements_from}

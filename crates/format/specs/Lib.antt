@@ -25,5 +25,5 @@ pub mod Call
 pub mod Rests
 -- What the building blocks speak of besides, on the way there.
 pub mod steps
--- Theorems about it.
+-- What a theorem supposes.
 pub mod Theorems

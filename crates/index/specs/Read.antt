@@ -13,10 +13,10 @@ use Rattle.std.proofs.Math.Seq.{drop-cons}
 use borrow.Author.Tests.{eq-eqb, ne_eqb, eqb-true, leb-true, le-leb, lt-leb}
 use Rattle.blob.specs.Reading.{Outcome, done, refused, choose, then, answer, verdict}
 use Rattle.blob.specs.declared.Verdict.TheVariants as verdicts
-use Rattle.blob.specs.Laws.{both, same, then-done}
+use Rattle.blob.proofs.Laws.{both, same, then-done}
 use Rattle.blob.specs.Laid.{laid, flat, length-laid, laid_more, laid-behind}
 use Rattle.blob.specs.declared.Refusal.{Refusal}
-use Rattle.format.specs.Theorems.Known.{All}
+use Rattle.format.proofs.Theorems.Known.{All}
 use Rattle.number.specs.Number.{LONGEST, WORD, LONG, fault, number_at}
 use Rattle.number.specs.Scan.{ones, wider, read_fits}
 use Rattle.number.specs.declared.Number.{Number}

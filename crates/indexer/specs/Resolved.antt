@@ -8,7 +8,7 @@ use Rattle.std.proofs.Math.ListN.{get_or, set, length-set}
 use Rattle.std.proofs.Math.Seq.{get_or-set_same, get_or-set_other}
 use borrow.Author.Tests.{eqb-true, ne_eqb, ltb-true}
 use Rattle.blob.specs.Reading.{choose}
-use Rattle.blob.specs.Laws.{both}
+use Rattle.blob.proofs.Laws.{both}
 use Rattle.blob.specs.Laid.{flat}
 use Rattle.format.specs.Area.{PROVIDERS, TABLES, EVENTS, TEMPLATES, place, width, of}
 use Rattle.format.specs.Table.{TTBL}

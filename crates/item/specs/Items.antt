@@ -8,8 +8,8 @@ use borrow.Author.Tests.{le-leb, lt-leb, leb-true}
 use Rattle.blob.specs.declared.Verdict.TheVariants as verdicts
 use Rattle.blob.specs.Le.{le}
 use Rattle.blob.specs.Reading.{Outcome, done, refused, choose, run, then, many, verdict}
-use Rattle.blob.specs.Laws.{same, fine-value, run_bind, run-number, run-got, run_holds, run-fails, many-none, many-count}
-use Rattle.blob.specs.Finds.{Finds, finds-got, finds-demand, finds_bind, finds-next}
+use Rattle.blob.proofs.Laws.{same, fine-value, run_bind, run-number, run-got, run_holds, run-fails, many-none, many-count}
+use Rattle.blob.proofs.Finds.{Finds, finds-got, finds-demand, finds_bind, finds-next}
 use Rattle.format.specs.Field.{template_item_descriptors, template_item_name}
 use Rattle.format.specs.Refuse.{truncated}
 use Rattle.format.specs.Region.{until, inside}

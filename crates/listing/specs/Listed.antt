@@ -6,17 +6,17 @@ use mathlib.Core.List.{List, [], ◌∷◌, ◌++◌, map, append-nil}
 use Rattle.std.proofs.lemmas.Bool.{lt-leb}
 use Rattle.blob.specs.Reading.{Outcome, done, refused}
 use Rattle.blob.specs.Laid.{laid, length-laid, flat}
-use Rattle.blob.specs.Laws.{same, choose-done, then-done}
+use Rattle.blob.proofs.Laws.{same, choose-done, then-done}
 use Rattle.format.specs.Crim.{Crim}
 use Rattle.format.specs.Area.{PROVIDERS, EVENTS, TEMPLATES, rows, place, width, of}
 use Rattle.format.specs.Entry.{TEMPLATE_PROVIDER, TEMPLATE_OFFSET, TEMPLATE_SIZE, TEMPLATE_START, TEMPLATE_LENGTH}
 use Rattle.format.specs.Lists.{lists}
 use Rattle.format.specs.Lookup.{entries_from}
-use Rattle.format.specs.Theorems.Taken.{taken}
+use Rattle.format.proofs.Theorems.Taken.{taken}
 use Rattle.format.specs.Answer.{areas, lent_enough, reading, answer, held}
 use Rattle.format.specs.Listing.{Piece, template_line, lines, listing, sixty_four}
-use Rattle.format.specs.Theorems.Codes.{refused-code}
-use Rattle.format.specs.Theorems.Block.{reading-crim}
+use Rattle.format.proofs.Theorems.Codes.{refused-code}
+use Rattle.format.proofs.Theorems.Block.{reading-crim}
 use Rattle.format.specs.declared.Answer.{Answer}
 use Rattle.areas.specs.Areas.{list-fits}
 use Rattle.listing.specs.Rendered.{characters, newline, line, rendered}

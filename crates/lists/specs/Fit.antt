@@ -3,7 +3,7 @@ use Rattle.std.specs.Prelude.{ℕ, zero, suc, ◌+◌, ◌*◌, ◌≤◌, ◌�
 use Rattle.std.proofs.Common.{ap, sym, add-zero, zero-add, mul_comm, mul-le-mul, mul-zero, zero-mul, arith, leb-true}
 use Rattle.std.proofs.Math.Seq.{take-nil}
 use Rattle.blob.specs.Reading.{choose}
-use Rattle.blob.specs.Laws.{both, not_fine}
+use Rattle.blob.proofs.Laws.{both, not_fine}
 use Rattle.blob.specs.declared.Refusal.{Refusal}
 use Rattle.blob.specs.declared.Verdict.{Verdict}
 use Rattle.blob.specs.declared.Verdict.TheVariants as verdicts

@@ -11,7 +11,7 @@ use Rattle.std.proofs.lemmas.List.{length-replicate, get_or-replicate}
 use Rattle.std.proofs.Math.Dec.{eqb}
 use borrow.Author.Tests.{eq-eqb, ne_eqb, eqb-true, eqb-false, le-leb, lt-leb, lt-ltb, le-ltb, leb-true, leb-false, ltb-true}
 use Rattle.blob.specs.Reading.{choose}
-use Rattle.blob.specs.Laws.{both}
+use Rattle.blob.proofs.Laws.{both}
 use Rattle.format.specs.Area.{PROVIDERS, EVENTS, of}
 use Rattle.format.specs.Entry.{TABLE_PROVIDER, TABLE_KIND, TABLE_FIRST, TABLE_COUNT}
 use Rattle.format.specs.Table.{EVNT}

@@ -7,7 +7,7 @@ use mathlib.Core.List.{List, [], ◌∷◌, append-nil}
 use native.Mathlib.Omega.{arith}
 use Rattle.std.proofs.Math.Dec.{eqb}
 use Rattle.blob.specs.Reading.{choose}
-use Rattle.blob.specs.Laws.{both}
+use Rattle.blob.proofs.Laws.{both}
 use Rattle.blob.specs.Laid.{flat}
 use Rattle.format.specs.Area.{PROVIDERS, TABLES, TEMPLATES, rows, place, width, of}
 use Rattle.format.specs.Entry.{TABLE_PROVIDER, TABLE_KIND, TABLE_FIRST, TABLE_COUNT}

@@ -6,7 +6,7 @@ use Rattle.std.proofs.Common.{◌∙◌, arith}
 use mathlib.Core.List.{List, [], ◌∷◌, ◌++◌, map, map-append}
 use borrow.Author.Tests.{le-leb, lt-leb}
 use Rattle.blob.specs.Reading.{Outcome, done, refused}
-use Rattle.blob.specs.Asks.{inside_append}
+use Rattle.blob.proofs.Asks.{inside_append}
 use Rattle.blob.specs.Laid.{laid, flat}
 use Rattle.blob.specs.Places.{Each}
 use Rattle.blob.specs.declared.Refusal.{Refusal}

@@ -11,7 +11,7 @@ use native.Mathlib.Omega.{arith}
 use Rattle.std.proofs.Math.ListN.{set, length-set, length-replicate, get_or-replicate}
 use Rattle.std.proofs.Math.Seq.{get_or-set_same, get_or-set_other}
 use Rattle.blob.specs.Reading.{choose}
-use Rattle.blob.specs.Asks.{inside_append}
+use Rattle.blob.proofs.Asks.{inside_append}
 use Rattle.blob.specs.Laid.{flat}
 use Rattle.blob.specs.Places.{Each}
 use Rattle.format.specs.Area.{TEMPLATES, width}

@@ -7,8 +7,8 @@ use Rattle.blob.specs.declared.Refusal.{Refusal}
 use Rattle.blob.specs.declared.Verdict.{Verdict}
 use Rattle.blob.specs.declared.Verdict.TheVariants as verdicts
 use Rattle.blob.specs.Reading.{Reading, Outcome, done, refused, choose, run, many, then, values}
-use Rattle.blob.specs.Laws.{both, choose-done, run_room, run_past}
-use Rattle.blob.specs.Finds.{Finds, finds-got, finds-room, finds-demand, finds-next}
+use Rattle.blob.proofs.Laws.{both, choose-done, run_room, run_past}
+use Rattle.blob.proofs.Finds.{Finds, finds-got, finds-room, finds-demand, finds-next}
 use Rattle.format.specs.Field.{CRIM_provider_descriptor_array}
 use Rattle.format.specs.Refuse.{truncated}
 use Rattle.format.specs.Definition.{step}

@@ -4,15 +4,15 @@ use Rattle.std.proofs.Common.{ap, sym, ◌∙◌, arith}
 use Rattle.blob.specs.declared.Refusal.{Refusal}
 use Rattle.blob.specs.declared.Verdict.TheVariants as verdicts
 use Rattle.blob.specs.Reading.{done, refused, run, verdict}
-use Rattle.blob.specs.Laws.{fine-done}
+use Rattle.blob.proofs.Laws.{fine-done}
 use Rattle.format.specs.Provider.{Provider}
 use Rattle.format.specs.Lists.{lists}
 use Rattle.format.specs.Area.{rows, AREAS, none}
 use Rattle.format.specs.Answer.{moderate, with_room, counted, capped}
 use Rattle.format.specs.steps.Needs.{needs_all}
-use Rattle.format.specs.Theorems.Needed.{needed}
+use Rattle.format.proofs.Theorems.Needed.{needed}
 use Rattle.format.specs.steps.Parts.{Few}
-use Rattle.format.specs.Theorems.Fits.{few-uncapped}
+use Rattle.format.proofs.Theorems.Fits.{few-uncapped}
 use Rattle.format.specs.declared.CrimHeader.{CrimHeader}
 use Rattle.counts.specs.Short.{short}
 use Rattle.areas.specs.Areas.{providers, providers_in, roomy, few}

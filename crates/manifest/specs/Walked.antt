@@ -6,7 +6,7 @@ use mathlib.Core.List.{List}
 use Rattle.blob.specs.declared.Refusal.{Refusal}
 use Rattle.blob.specs.declared.Verdict.TheVariants as verdicts
 use Rattle.blob.specs.Reading.{Outcome, done, refused, run, many}
-use Rattle.blob.specs.Laws.{not_fine, told_more, many-refused}
+use Rattle.blob.proofs.Laws.{not_fine, told_more, many-refused}
 use Rattle.format.specs.Definition.{step}
 use Rattle.format.specs.Area.{none}
 use Rattle.format.specs.Provider.{Provider}

@@ -8,8 +8,8 @@ use Rattle.blob.specs.declared.Refusal.{Refusal}
 use Rattle.blob.specs.declared.Verdict.TheVariants as verdicts
 use Rattle.blob.specs.Le.{le}
 use Rattle.blob.specs.Reading.{Fault, Reading, got, Outcome, done, refused, choose, demand, run, then, ◌>>=◌, number, many, verdict, values}
-use Rattle.blob.specs.Laws.{fine-done, run_bind, run-number, run_room, run_past, run_holds, run-fails, many_more}
-use Rattle.blob.specs.Finds.{Finds, finds-got, finds-room, finds-choose, finds-demand, finds_bind, finds-next}
+use Rattle.blob.proofs.Laws.{fine-done, run_bind, run-number, run_room, run_past, run_holds, run-fails, many_more}
+use Rattle.blob.proofs.Finds.{Finds, finds-got, finds-room, finds-choose, finds-demand, finds_bind, finds-next}
 use Rattle.format.specs.Field.{MAPS_map_offset, MAPS_map_signature, VMAP_size_field, VMAP_header, VMAP_size, VMAP_entries_array, VMAP_map_string}
 use Rattle.format.specs.Refuse.{truncated, size_out, offset_out}
 use Rattle.format.specs.Region.{blob_end, until, against, inside}

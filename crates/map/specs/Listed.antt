@@ -9,11 +9,11 @@ use Rattle.blob.specs.declared.Refusal.{Refusal}
 use Rattle.blob.specs.declared.Verdict.TheVariants as verdicts
 use Rattle.blob.specs.Le.{le}
 use Rattle.blob.specs.Reading.{Reading, got, room, Outcome, done, refused, choose, run, then, ◌>>=◌, number, many, verdict}
-use Rattle.blob.specs.Laws.{not_fine, run_bind, run-number, run_room, run_past, bind_same, many-same}
-use Rattle.blob.specs.Finds.{Finds, finds-choose, finds-next}
+use Rattle.blob.proofs.Laws.{not_fine, run_bind, run-number, run_room, run_past, bind_same, many-same}
+use Rattle.blob.proofs.Finds.{Finds, finds-choose, finds-next}
 use Rattle.format.specs.Refuse.{size_out}
 use Rattle.format.specs.Region.{Region, until, end, region_at, end_read}
-use Rattle.format.specs.Theorems.Ends.{is_end, no_end}
+use Rattle.format.proofs.Theorems.Ends.{is_end, no_end}
 use Rattle.format.specs.Field.{table_size, MAPS_offsets_array}
 use Rattle.format.specs.Table.{MAPS, header_length}
 use Rattle.format.specs.Definition.{step}

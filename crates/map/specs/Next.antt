@@ -6,13 +6,13 @@ use Rattle.blob.specs.declared.Refusal.{Refusal}
 use Rattle.blob.specs.declared.Verdict.TheVariants as verdicts
 use Rattle.blob.specs.Laid.{laid, flat}
 use Rattle.blob.specs.Reading.{Outcome, done, run, many, verdict, values}
-use Rattle.blob.specs.Laws.{not_fine, many_more, many-stop, many-length, values-more, values-none, fill_more, length-flat}
+use Rattle.blob.proofs.Laws.{not_fine, many_more, many-stop, many-length, values-more, values-none, fill_more, length-flat}
 use Rattle.format.specs.Area.{MAPS, ENTRIES, width}
 use Rattle.format.specs.Definition.{step}
 use Rattle.format.specs.Map.{Mapped, entry_at, map_read}
 use Rattle.format.specs.Answer.{capped}
 use Rattle.format.specs.steps.Needs.{total, entry_count}
-use Rattle.format.specs.Theorems.Counting as counting
+use Rattle.format.proofs.Theorems.Counting as counting
 use Rattle.format.specs.Lists.{map_words, map_entry_words, map_list}
 use Rattle.format.specs.declared.Map.{Map}
 use Rattle.format.specs.declared.MapRead.TheVariants as read

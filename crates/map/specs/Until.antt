@@ -2,9 +2,9 @@
 use Rattle.std.specs.Prelude.{ℕ, ◌+◌, ◌≤◌, ◌≡◌, refl, List, Bool, true, false, eqb, length}
 use Rattle.std.proofs.Common.{arith}
 use Rattle.blob.specs.Reading.{got, choose, run}
-use Rattle.blob.specs.Laws.{run-number, run-demand, bind_same, same_room}
+use Rattle.blob.proofs.Laws.{run-number, run-demand, bind_same, same_room}
 use Rattle.format.specs.Region.{Region, blob_end, until, end}
-use Rattle.format.specs.Theorems.Until.{run_inside}
+use Rattle.format.proofs.Theorems.Until.{run_inside}
 use Rattle.format.specs.Map.{VMAP, value_map_at, other_map, map_at, up_to_4}
 
 value-map_until : (R : Region) (at : ℕ) (s : List ℕ) → run (value_map_at R at) s ≡ run (value_map_at (until (end (length s) R)) at) s

@@ -5,7 +5,7 @@ use Rattle.std.proofs.Math.Path.{sym}
 use borrow.Author.Tests.{le-leb, lt-leb, leb-true, eq-eqb, ne_eqb}
 use Rattle.blob.specs.declared.Refusal.{Refusal}
 use Rattle.blob.specs.Le.{le}
-use Rattle.blob.specs.Laws.{never, fine-value, run-number, run_holds, run-fails}
+use Rattle.blob.proofs.Laws.{never, fine-value, run-number, run_holds, run-fails}
 use Rattle.blob.specs.Reading.{Fault, Reading, done, refused, demand, run, verdict}
 use Rattle.format.specs.Refuse.{truncated, size_out, offset_out, not_utf16}
 use Rattle.format.specs.Region.{until, inside}

@@ -8,7 +8,7 @@ use native.Mathlib.Omega.{arith}
 use Rattle.std.proofs.Math.Dec.{ltb, leb-suc-suc}
 use borrow.Author.Tests.{le-leb, lt-leb, lt-ltb, le-ltb, eq-eqb, ne_eqb, ltb-true, ltb-false}
 use Rattle.blob.specs.Le.{le}
-use Rattle.blob.specs.Laws.{run-number, fine-value, choose-done}
+use Rattle.blob.proofs.Laws.{run-number, fine-value, choose-done}
 use Rattle.blob.specs.Reading.{Outcome, stop, done, refused, choose, demand, run, verdict}
 use Rattle.format.specs.Refuse.{not_utf16}
 use Rattle.format.specs.Name.{high, low, text}

@@ -12,7 +12,7 @@ use Rattle.std.proofs.Math.Dec.{leb, ltb, eqb-suc-suc, eqb-zero-suc}
 use borrow.Author.Tests.{le-leb, lt-leb, leb-true, leb-false, ltb-true, ltb-false, lt-ltb, le-ltb, eqb-true, eqb-false, ne_eqb, eq-eqb, not-true}
 use Rattle.blob.specs.Reading.{Outcome, done, refused, choose, answer, verdict}
 use Rattle.blob.specs.declared.Verdict.TheVariants as verdicts
-use Rattle.blob.specs.Laws.{both, never, same, choose-done, fine-value}
+use Rattle.blob.proofs.Laws.{both, never, same, choose-done, fine-value}
 use Rattle.number.specs.Number.{LONGEST, LONG, form, upto, ended, value, last_or, padded, fault, number_at}
 use Rattle.number.specs.declared.Number.{Number}
 use Rattle.number.specs.declared.Passed.{Passed}

@@ -7,16 +7,16 @@ use Rattle.blob.specs.Le.{le}
 use Rattle.blob.specs.declared.Verdict.TheVariants as verdicts
 use Rattle.blob.specs.Reading.{Outcome, done, run, number, many, each, answer, verdict, values}
 use Rattle.blob.specs.Laid.{laid, flat}
-use Rattle.blob.specs.Laws.{same, fine-value, run-after, many-count, length-flat}
-use Rattle.blob.specs.Finds.{Finds, finds-got, finds-room, finds-demand, finds-next}
+use Rattle.blob.proofs.Laws.{same, fine-value, run-after, many-count, length-flat}
+use Rattle.blob.proofs.Finds.{Finds, finds-got, finds-room, finds-demand, finds-next}
 use Rattle.format.specs.Area.{PROVIDERS, DESCRIPTORS, UNKNOWN2, UNKNOWN, width}
 use Rattle.format.specs.Definition.{guid_at, step}
 use Rattle.format.specs.Provider.{Table, Provider, Element, wevt_at, descriptor_at, element_at, elements_from}
 use Rattle.format.specs.Crim.{described_at}
 use Rattle.format.specs.Lists.{kept, unknowns, descriptor_words, unknown2_words, unknown_words}
 use Rattle.format.specs.steps.Parts.{Room, Stored, part, passed, behind, behind_all, table_parts}
-use Rattle.format.specs.Theorems.Grows.{behind_all-same}
-use Rattle.format.specs.Theorems.Described.{Described, described}
+use Rattle.format.proofs.Theorems.Grows.{behind_all-same}
+use Rattle.format.proofs.Theorems.Described.{Described, described}
 use Rattle.format.specs.declared.Guid.{Guid}
 use Rattle.format.specs.declared.Wevt.{Wevt}
 

@@ -11,7 +11,7 @@ use Rattle.blob.specs.Le.{le}
 use Rattle.blob.specs.declared.Refusal.{Refusal}
 use Rattle.blob.specs.declared.Verdict.TheVariants as verdicts
 use Rattle.blob.specs.Reading.{Fault, Reading, got, room, Outcome, done, refused, choose, run, number, many, each, verdict, values}
-use Rattle.blob.specs.Laws.{run-after, run-stopped, run-number, run_room, run-got, finds-number, many-fine, many-count, fine-done, not_fine, refused-value}
+use Rattle.blob.proofs.Laws.{run-after, run-stopped, run-number, run_room, run-got, finds-number, many-fine, many-count, fine-done, not_fine, refused-value}
 use Rattle.words.specs.Guid.{guid-found}
 use Rattle.format.specs.Area.{PROVIDERS, DESCRIPTORS, UNKNOWN2, place}
 use Rattle.format.specs.Field.{WEVT_descriptor_array, WEVT_unknown2_array}

@@ -9,7 +9,7 @@ use borrow.Author.Tests.{eq-eqb, ne_eqb}
 use Rattle.blob.specs.Le.{le}
 use Rattle.blob.specs.declared.Verdict.TheVariants as verdicts
 use Rattle.blob.specs.Reading.{done, refused, run, many, verdict}
-use Rattle.blob.specs.Laws.{run-number, run_room, run_past, run_holds, run-fails, run-got, many_more, many-none}
+use Rattle.blob.proofs.Laws.{run-number, run_room, run_past, run_holds, run-fails, run-got, many_more, many-none}
 use Rattle.format.specs.Field.{WEVT_provider_offset, WEVT_header, WEVT_element_offset, WEVT_element_signature}
 use Rattle.format.specs.Refuse.{offset_out, truncated, wrong_signature}
 use Rattle.format.specs.Definition.{step}

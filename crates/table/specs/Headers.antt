@@ -6,8 +6,8 @@ use Rattle.std.proofs.Math.ListN.{length}
 use borrow.Author.Tests.{eq-eqb, ne_eqb, le-leb, lt-leb, leb-true}
 use Rattle.blob.specs.Le.{le}
 use Rattle.blob.specs.Reading.{done, refused, run}
-use Rattle.blob.specs.Laws.{run-number, run_room, run_past, run_holds, run-fails, run-after, run-stopped}
-use Rattle.blob.specs.Finds.{Finds, finds-got, finds-room, finds-choose, finds-demand, finds_bind}
+use Rattle.blob.proofs.Laws.{run-number, run_room, run_past, run_holds, run-fails, run-after, run-stopped}
+use Rattle.blob.proofs.Finds.{Finds, finds-got, finds-room, finds-choose, finds-demand, finds_bind}
 use Rattle.format.specs.Field.{table_offset, table_header, table_size, table_array}
 use Rattle.format.specs.Refuse.{offset_out, truncated, wrong_signature, size_out}
 use Rattle.format.specs.Region.{bounded}

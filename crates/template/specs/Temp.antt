@@ -8,8 +8,8 @@ use Rattle.blob.specs.declared.Refusal.{Refusal}
 use Rattle.blob.specs.declared.Verdict.TheVariants as verdicts
 use Rattle.blob.specs.Le.{le}
 use Rattle.blob.specs.Reading.{Outcome, done, refused, choose, run, then, verdict}
-use Rattle.blob.specs.Laws.{never, same, fine-value, refused-value, run_bind, run-number, run-demand, run-got}
-use Rattle.blob.specs.Finds.{Finds, finds-got, finds-demand, finds_bind, finds-next}
+use Rattle.blob.proofs.Laws.{never, same, fine-value, refused-value, run_bind, run-number, run-demand, run-got}
+use Rattle.blob.proofs.Finds.{Finds, finds-got, finds-demand, finds_bind, finds-next}
 use Rattle.words.specs.Guid.{guid-found}
 use Rattle.format.specs.Region.{until, inside}
 use Rattle.format.specs.Definition.{guid_at}

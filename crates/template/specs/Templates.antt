@@ -10,7 +10,7 @@ use Rattle.blob.specs.declared.Refusal.{Refusal}
 use Rattle.blob.specs.declared.Verdict.TheVariants as verdicts
 use Rattle.blob.specs.Le.{le}
 use Rattle.blob.specs.Reading.{refused, choose, many, run, verdict, values}
-use Rattle.blob.specs.Laws.{many-first, many-same, values-more, fill_more, length-flat}
+use Rattle.blob.proofs.Laws.{many-first, many-same, values-more, fill_more, length-flat}
 use Rattle.blob.specs.Laid.{laid, flat, flat_append, flat_map}
 use Rattle.format.specs.Field.{table_size}
 use Rattle.format.specs.Region.{until, end, region_at, end_read}
@@ -19,8 +19,8 @@ use Rattle.format.specs.Template.{Template, template_at, next, templates_at}
 use Rattle.format.specs.Area.{ITEMS, width}
 use Rattle.format.specs.Lists.{item_words, item_list}
 use Rattle.format.specs.steps.Needs.{total, item_count}
-use Rattle.format.specs.Theorems.Ends.{region-bounds}
-use Rattle.format.specs.Theorems.Until.{template_until, region-told, region-refused}
+use Rattle.format.proofs.Theorems.Ends.{region-bounds}
+use Rattle.format.proofs.Theorems.Until.{template_until, region-told, region-refused}
 use Rattle.format.specs.declared.EndRead.TheVariants as ends
 use Rattle.format.specs.declared.Header.{Header}
 use Rattle.template.specs.Temp.{Fine, items_of_temp, fine-template, fine-count}

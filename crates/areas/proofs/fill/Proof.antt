@@ -10,7 +10,7 @@ use Rattle.format.specs.Area.{none}
 use Rattle.format.specs.Definition.{step}
 use Rattle.format.specs.Crim.{described_at}
 use Rattle.format.specs.steps.Parts.{parts, passed_all}
-use Rattle.format.specs.Theorems.Stored.{Left, left-none}
+use Rattle.format.proofs.Theorems.Stored.{Left, left-none}
 use Rattle.areas.specs.Areas.{providers_in}
 use Rattle.areas.specs.Walked.{next-provider, next-fine, provider-room, provider-left, none_left}
 use Rattle.areas.proofs.fill.Statement.{statement}

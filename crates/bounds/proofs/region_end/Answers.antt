@@ -5,7 +5,7 @@ use mathlib.Core.Path.{◌≡◌, refl, ◌∙◌}
 use mathlib.Core.List.{List}
 use Prim.Native.Nat.{ℕ}
 use Rattle.blob.specs.Reading.{Reading, Outcome, done, refused, got, run, then, ◌>>=◌}
-use Rattle.blob.specs.Laws.{run_bind}
+use Rattle.blob.proofs.Laws.{run_bind}
 use Rattle.format.specs.Region.{until, end, end_read, region_at}
 use Rattle.bounds.proofs.region_end.Goals as goal
 

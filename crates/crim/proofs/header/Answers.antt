@@ -2,7 +2,7 @@
 use mathlib.Core.Path.{◌≡◌, sym, ◌∙◌}
 use native.Mathlib.Omega.{arith}
 use Rattle.blob.specs.Le.{le}
-use Rattle.blob.specs.Laws.{answer-found, answer-refused}
+use Rattle.blob.proofs.Laws.{answer-found, answer-refused}
 use Rattle.format.specs.declared.CrimRead.TheVariants as read
 use Rattle.format.specs.Crim.{CRIM}
 use Rattle.crim.specs.Header.{no-signature, other_signature, no_size, no-major, no-minor, no-count, size-under, size-past, header-found}

@@ -3,8 +3,8 @@ use mathlib.Core.Path.{refl, ap, sym, ◌∙◌}
 use borrow.Author.Rules.{rules}
 use Rattle.blob.specs.declared.Verdict.TheVariants as verdicts
 use Rattle.blob.specs.Reading.{verdict}
-use Rattle.blob.specs.Laws.{answer-refused}
-use Rattle.format.specs.Theorems.Ends.{is_place, no_end}
+use Rattle.blob.proofs.Laws.{answer-refused}
+use Rattle.format.proofs.Theorems.Ends.{is_place, no_end}
 use Rattle.table.specs.Headers.{end_fits}
 use Rattle.definition.specs.Records.{table-refused, table-rows}
 use Rattle.definition.proofs.check_definitions.Goals as goal

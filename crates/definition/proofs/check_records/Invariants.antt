@@ -5,7 +5,7 @@ use native.Mathlib.Omega.{arith}
 use borrow.Author.Rules.{rules}
 use lib.ListN.{length}
 use Rattle.blob.specs.Reading.{run, verdict}
-use Rattle.blob.specs.Laws.{many_more, many-stop, many-none}
+use Rattle.blob.proofs.Laws.{many_more, many-stop, many-none}
 use Rattle.format.specs.Table.{stride}
 use Rattle.format.specs.Definition.{definition_at, step}
 use Rattle.definition.specs.Records.{rows, one_less, record_refused, record_found}

@@ -2,7 +2,7 @@
 use mathlib.Core.Path.{ap, sym, ◌∙◌}
 use Rattle.blob.specs.Reading.{done}
 use Rattle.format.specs.Region.{blob_end}
-use Rattle.format.specs.Theorems.Until.{name-until}
+use Rattle.format.proofs.Theorems.Until.{name-until}
 use Rattle.definition.specs.Records.{definition_found, name-fine}
 use borrow.Author.Rules.{rules}
 use Rattle.definition.proofs.definition_of.Goals as goal

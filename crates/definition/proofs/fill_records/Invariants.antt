@@ -6,7 +6,7 @@ use borrow.Author.Rules.{rules}
 use lib.ListN.{length}
 use Rattle.blob.specs.declared.Verdict.TheVariants as verdicts
 use Rattle.blob.specs.Reading.{run, verdict}
-use Rattle.blob.specs.Laws.{many-first, many_more, rest, rest_more, rest-none}
+use Rattle.blob.proofs.Laws.{many-first, many_more, rest, rest_more, rest-none}
 use Rattle.format.specs.Area.{DEFINITIONS, width}
 use Rattle.format.specs.Table.{stride}
 use Rattle.format.specs.Definition.{definition_at, step}

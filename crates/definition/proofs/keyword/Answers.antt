@@ -1,6 +1,6 @@
 use borrow.Author.Rules.{rules}
 use Rattle.blob.specs.Reading.{run}
-use Rattle.blob.specs.Laws.{run-number}
+use Rattle.blob.proofs.Laws.{run-number}
 use Rattle.format.specs.Definition.{keyword_fields}
 use Rattle.definition.proofs.keyword.Goals as goal
 

@@ -13,7 +13,7 @@ use Rattle.format.specs.Provider.{elements_from}
 use Rattle.format.specs.Lists.{kept}
 use Rattle.format.specs.Answer.{capped}
 use Rattle.format.specs.steps.Needs.{modest}
-use Rattle.blob.specs.Laws.{fine-done}
+use Rattle.blob.proofs.Laws.{fine-done}
 use native.Mathlib.Nat.{zero-add}
 use Rattle.counts.specs.Short.{modest-set}
 use Rattle.element.specs.Places.{Standing}

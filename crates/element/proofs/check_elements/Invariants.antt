@@ -8,7 +8,7 @@ use borrow.Author.Rules.{rules}
 use lib.ListN.{length}
 use Rattle.blob.specs.declared.Verdict.TheVariants as verdicts
 use Rattle.blob.specs.Reading.{run, many, verdict}
-use Rattle.blob.specs.Laws.{many_more, refused-value}
+use Rattle.blob.proofs.Laws.{many_more, refused-value}
 use Rattle.format.specs.Definition.{step}
 use Rattle.format.specs.Provider.{descriptor_at, elements_from}
 use Rattle.element.specs.Elements.{signature-fits, next-described}

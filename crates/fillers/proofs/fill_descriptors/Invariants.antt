@@ -6,7 +6,7 @@ use borrow.Author.Rules.{rules}
 use lib.ListN.{length}
 use Rattle.blob.specs.declared.Verdict.TheVariants as verdicts
 use Rattle.blob.specs.Reading.{run, many, verdict}
-use Rattle.blob.specs.Laws.{many_more, rest, rest_more, rest-none}
+use Rattle.blob.proofs.Laws.{many_more, rest, rest_more, rest-none}
 use Rattle.format.specs.Area.{DESCRIPTORS, width}
 use Rattle.format.specs.Definition.{step}
 use Rattle.format.specs.Lists.{descriptor_words}

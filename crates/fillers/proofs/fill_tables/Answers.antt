@@ -8,7 +8,7 @@ use Rattle.blob.specs.Reading.{run, values}
 use Rattle.format.specs.Provider.{elements_from}
 use Rattle.format.specs.Lists.{kept}
 use Rattle.format.specs.steps.Parts.{behind_all, table_parts}
-use Rattle.format.specs.Theorems.Stored.{Left, left-none}
+use Rattle.format.proofs.Theorems.Stored.{Left, left-none}
 use Rattle.element.specs.Places.{placed, kind-place}
 use Rattle.element.specs.Kinds.{kinds_from, kept_from, kept-none}
 use Rattle.fillers.specs.Kinds.{stands, kept-at, kind-room, kind-left}

@@ -7,7 +7,7 @@ use borrow.Author.Rules.{rules}
 use lib.ListN.{length}
 use Rattle.blob.specs.declared.Verdict.TheVariants as verdicts
 use Rattle.blob.specs.Reading.{run, number, many, verdict}
-use Rattle.blob.specs.Laws.{finds-number, many-fine, rest, rest_more, rest-none}
+use Rattle.blob.proofs.Laws.{finds-number, many-fine, rest, rest_more, rest-none}
 use Rattle.blob.specs.Laid.{laid}
 use Rattle.format.specs.Area.{UNKNOWN2, width}
 use Rattle.format.specs.Definition.{step}

@@ -1,9 +1,9 @@
 use mathlib.Core.Path.{ap, sym, ◌∙◌}
 use native.Mathlib.Omega.{arith}
-use Rattle.blob.specs.Laws.{fine-value}
+use Rattle.blob.proofs.Laws.{fine-value}
 use Rattle.fillers.specs.Rows.{trailing_of, shape, no-trailing, header-as, trailing_is, never_ends}
 use Rattle.table.specs.Headers.{end-bounds}
-use Rattle.format.specs.Theorems.Ends.{is_place, no_end}
+use Rattle.format.proofs.Theorems.Ends.{is_place, no_end}
 use borrow.Author.Rules.{rules}
 use Rattle.fillers.proofs.trailing_of.Goals as goal
 

@@ -3,7 +3,7 @@ use native.Mathlib.Omega.{arith}
 use Prim.Native.Nat.{ℕ}
 use mathlib.Core.List.{List}
 use Rattle.blob.specs.Reading.{done, verdict}
-use Rattle.blob.specs.Laws.{same}
+use Rattle.blob.proofs.Laws.{same}
 use Rattle.blob.specs.declared.Verdict.TheVariants as verdicts
 use Rattle.number.specs.Number.{WORD, LONG, number_at}
 use Rattle.number.specs.Scan.{ones, passed, passed_to, passed-not, wider, read_fits}

@@ -4,7 +4,7 @@ use Rattle.std.proofs.Common.{arith, eq-eqb}
 use Rattle.blob.specs.Reading.{done, then}
 use Rattle.blob.specs.Laid.{flat, flat_append}
 use Rattle.blob.specs.Places.{Each}
-use Rattle.format.specs.Theorems.Known.{All}
+use Rattle.format.proofs.Theorems.Known.{All}
 use Rattle.number.specs.Number.{WORD, form}
 use Rattle.index.specs.Index.{EDITION, ENTRY, Index, written, index}
 use Rattle.index.specs.Theorems.Rows.{Within, Lies, lies_all, lies_split, number-back, rows_back, singles-flat, words_back}

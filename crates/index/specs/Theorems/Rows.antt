@@ -8,10 +8,10 @@ use native.Mathlib.Omega.{arith}
 use Rattle.std.proofs.lemmas.List.{length-map}
 use Rattle.std.proofs.Math.Seq.{drop-append_seam, drop-length}
 use Rattle.blob.specs.Reading.{done, then}
-use Rattle.blob.specs.Laws.{same, then-done}
+use Rattle.blob.proofs.Laws.{same, then-done}
 use Rattle.blob.specs.Laid.{flat, flat_append, flat-single, flat_map}
 use Rattle.blob.specs.Places.{Each}
-use Rattle.format.specs.Theorems.Known.{All}
+use Rattle.format.proofs.Theorems.Known.{All}
 use Rattle.number.specs.Number.{LONGEST, WORD, LONG, upto, form, number_at}
 use Rattle.number.specs.Scan.{number_of, was_read, is_read}
 use Rattle.number.specs.Forms.{has-form, says, stops, slim, was_written}

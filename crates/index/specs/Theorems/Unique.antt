@@ -4,10 +4,10 @@ use Rattle.std.specs.Prelude.{ℕ, ◌/◌, ◌%◌, ◌<◌, ◌≡◌, refl, B
 use Rattle.std.proofs.Common.{ap, ap₂, sym, ◌∙◌, append_assoc, append-nil, arith, take_at, drop_at, eqb-true}
 use Rattle.std.proofs.Math.Seq.{take-append_seam, drop-append_seam, drop-length}
 use Rattle.blob.specs.Reading.{Outcome, done, choose, then}
-use Rattle.blob.specs.Laws.{same, choose-done, then-done}
+use Rattle.blob.proofs.Laws.{same, choose-done, then-done}
 use Rattle.blob.specs.Laid.{flat}
 use Rattle.blob.specs.Places.{Each}
-use Rattle.format.specs.Theorems.Known.{All}
+use Rattle.format.proofs.Theorems.Known.{All}
 use Rattle.number.specs.Number.{WORD, LONG, number_at}
 use Rattle.index.specs.Index.{EDITION, ENTRY, ONE, Index, written, rows_at, index, number_words, row_words, words, with_room, reading}
 use Rattle.index.specs.Theorems.Rows.{Within, Lies, lies_then, number-found, rows-found, words-found}

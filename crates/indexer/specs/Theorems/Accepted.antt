@@ -13,10 +13,10 @@ use Rattle.format.specs.Lists.{provider_words, lists}
 use Rattle.format.specs.Answer.{reading as block_reading, counted, answer, held as words_held, Allowed}
 use Rattle.format.specs.Lookup.{entries_of, word_of, every}
 use Rattle.format.specs.Join.{joined}
-use Rattle.format.specs.Theorems.Codes.{refused-code}
-use Rattle.format.specs.Theorems.Taken.{read, taken}
-use Rattle.format.specs.Theorems.Joins.{lent_still, counts-room, tables-join, tables-owned}
-use Rattle.format.specs.Theorems.Owned.{events-owned, events-found}
+use Rattle.format.proofs.Theorems.Codes.{refused-code}
+use Rattle.format.proofs.Theorems.Taken.{read, taken}
+use Rattle.format.proofs.Theorems.Joins.{lent_still, counts-room, tables-join, tables-owned}
+use Rattle.format.proofs.Theorems.Owned.{events-owned, events-found}
 use Rattle.format.specs.declared.Answer.{Answer}
 use Rattle.index.specs.Index.{Index, written, index, with_room, entry_of, UNKNOWN2_COUNT, fields_fit, index_of, writing}
 use Rattle.indexer.specs.Theorems.Fields.{block-fits}

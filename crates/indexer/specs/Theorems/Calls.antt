@@ -5,11 +5,11 @@ use Rattle.std.proofs.Math.Path.{refl}
 use Rattle.std.proofs.Common.{ap, ◌∙◌, arith, leb-true, le-leb}
 use mathlib.Core.List.{List}
 use Rattle.blob.specs.Reading.{Outcome, done, refused, then}
-use Rattle.blob.specs.Laws.{same, choose-done}
+use Rattle.blob.proofs.Laws.{same, choose-done}
 use Rattle.blob.specs.Laid.{laid}
 use Rattle.blob.specs.Places.{Each}
 use Rattle.format.specs.Answer.{lent_enough}
-use Rattle.format.specs.Theorems.Taken.{laid-here}
+use Rattle.format.proofs.Theorems.Taken.{laid-here}
 use Rattle.index.specs.Index.{words as words_of, written, reading, index_of, together, writing, given, held, AllowedRead, AllowedWrite}
 use Rattle.index.specs.declared.IndexAnswer.{IndexAnswer}
 use Rattle.index.specs.declared.IndexAnswer.TheVariants as answers

@@ -3,8 +3,8 @@ use Rattle.std.specs.Prelude.{ℕ, zero, suc, ◌+◌, ◌^◌, ◌<◌, ◌≡�
 use Rattle.std.proofs.Common.{arith, le-leb}
 use Rattle.blob.specs.Le.{le}
 use Rattle.blob.specs.Reading.{done}
-use Rattle.blob.specs.Laws.{both}
-use Rattle.blob.specs.Finds.{Finds, finds-got, finds-choose, finds_bind, finds-next}
+use Rattle.blob.proofs.Laws.{both}
+use Rattle.blob.proofs.Finds.{Finds, finds-got, finds-choose, finds_bind, finds-next}
 use Rattle.blob.specs.Laid.{flat}
 use Rattle.blob.specs.Places.{Each}
 use Rattle.format.specs.Table.{EVNT, MAPS, TTBL}
@@ -13,8 +13,8 @@ use Rattle.format.specs.Provider.{Table, table_at, events_at}
 use Rattle.format.specs.Crim.{Crim, crim}
 use Rattle.format.specs.Lists.{Entry, event_words, Owned, owned_tables, events_in}
 use Rattle.format.specs.Lookup.{every}
-use Rattle.format.specs.Theorems.Block.{byte_at}
-use Rattle.format.specs.Theorems.Known.{All, all-part, anything, finds-many, each-kept, each_owned_lem}
+use Rattle.format.proofs.Theorems.Block.{byte_at}
+use Rattle.format.proofs.Theorems.Known.{All, all-part, anything, finds-many, each-kept, each_owned_lem}
 use Rattle.format.specs.declared.Header.{Header}
 use Rattle.number.specs.Number.{BYTE, HALF}
 use Rattle.index.specs.Index.{fit, fields_fit}

@@ -7,7 +7,7 @@ use Rattle.format.specs.Area.{rows, place, width, of}
 use Rattle.format.specs.Lists.{Entry}
 use Rattle.format.specs.Answer.{areas}
 use Rattle.format.specs.Lookup.{entries_from, entries_of}
-use Rattle.format.specs.Theorems.Known.{All, all-part}
+use Rattle.format.proofs.Theorems.Known.{All, all-part}
 use Rattle.lists.specs.Entries.{entries-length}
 use Rattle.lists.specs.Fit.{inside}
 use Rattle.lists.specs.Found.{Fit}

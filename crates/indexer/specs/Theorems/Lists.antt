@@ -7,7 +7,7 @@ use Rattle.std.proofs.Common.{length-append}
 use Rattle.std.proofs.lemmas.List.{length-map}
 use borrow.Author.Tests.{leb-true, eqb-true}
 use Rattle.blob.specs.Reading.{done, choose}
-use Rattle.blob.specs.Laws.{same, both, choose-done}
+use Rattle.blob.proofs.Laws.{same, both, choose-done}
 use Rattle.blob.specs.Places.{Each}
 use Rattle.format.specs.Area.{PROVIDERS, TABLES, EVENTS, TEMPLATES}
 use Rattle.format.specs.Entry.{TABLE_PROVIDER, TABLE_KIND}
@@ -17,7 +17,7 @@ use Rattle.format.specs.Answer.{lent_enough}
 use Rattle.format.specs.Lookup.{entries_of, word_of, counts_fit, select, every, tables_fit, tables_own}
 use Rattle.format.specs.Join.{those}
 use Rattle.format.specs.Owner.{member, firsts, ranges, owners_of, each_owned, finds, found_from, events_owned, found_events}
-use Rattle.format.specs.Theorems.Known.{All, all_append}
+use Rattle.format.proofs.Theorems.Known.{All, all_append}
 use Rattle.number.specs.Number.{BYTE, HALF, WORD, LONG}
 use Rattle.index.specs.Index.{ENTRY, index, written, entry_of, UNKNOWN2_COUNT, fit, fields_fit, index_of, together, writing}
 use Rattle.index.specs.Theorems.Rows.{Within}

@@ -7,7 +7,7 @@ use borrow.Author.Rules.{rules}
 use borrow.Author.Tests.{ne_eqb, eq-eqb, le-leb, lt-leb}
 use Rattle.blob.specs.declared.Verdict.TheVariants as verdicts
 use Rattle.blob.specs.Reading.{verdict}
-use Rattle.blob.specs.Laws.{run_holds, run-fails}
+use Rattle.blob.proofs.Laws.{run_holds, run-fails}
 use Rattle.format.specs.Item.{item_name_at}
 use Rattle.item.proofs.check_name.Goals as goal
 use Rattle.item.proofs.check_name.Goals.{then-offset-temp+else-offset-ne0, else-offset-temp}

@@ -4,7 +4,7 @@ use mathlib.Core.Path.{◌≡◌, refl, sym, ◌∙◌}
 use native.Mathlib.Omega.{arith}
 use borrow.Author.Rules.{rules}
 use Rattle.blob.specs.Reading.{run, many, verdict}
-use Rattle.blob.specs.Laws.{many_more, many-stop, many-none, refused-value, fine-value}
+use Rattle.blob.proofs.Laws.{many_more, many-stop, many-none, refused-value, fine-value}
 use Rattle.format.specs.Definition.{step}
 use Rattle.format.specs.Item.{item_at}
 use Rattle.item.specs.Items.{item_verdict}

@@ -7,7 +7,7 @@ use lib.ListN.{length}
 use Rattle.blob.specs.declared.Verdict.TheVariants as verdicts
 use Rattle.blob.specs.Reading.{run, many, verdict, values}
 use Rattle.blob.specs.Laid.{laid, flat}
-use Rattle.blob.specs.Laws.{fine-value, many-first, many_more, rest, rest_more, rest-none}
+use Rattle.blob.proofs.Laws.{fine-value, many-first, many_more, rest, rest_more, rest-none}
 use Rattle.format.specs.Area.{ITEMS, width}
 use Rattle.format.specs.Definition.{step}
 use Rattle.format.specs.Item.{item_at, items_from}

@@ -8,7 +8,7 @@ use Rattle.format.specs.Area.{none}
 use Rattle.format.specs.Definition.{step}
 use Rattle.format.specs.Crim.{described_at}
 use Rattle.format.specs.steps.Needs.{modest, needs_all, providers_read}
-use Rattle.format.specs.Theorems.Needed.{plus-modest}
+use Rattle.format.proofs.Theorems.Needed.{plus-modest}
 use Rattle.areas.specs.Areas.{providers}
 use Rattle.areas.specs.Walked.{none_left}
 use Rattle.manifest.specs.Walked.{is_needs, is_refused, needs_more, needs_stop}

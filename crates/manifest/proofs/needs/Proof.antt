@@ -5,7 +5,7 @@ use lib.ListN.{length-take}
 use Rattle.blob.specs.Reading.{run, refused}
 use Rattle.format.specs.Crim.{header}
 use Rattle.format.specs.Answer.{answer, needing}
-use Rattle.format.specs.Theorems.Determined.{needs_refused}
+use Rattle.format.proofs.Theorems.Determined.{needs_refused}
 use Rattle.manifest.specs.Read.{block-long, block-headless, block-headed, is_header, no-header_read, sized}
 use borrow.Author.Rules.{rules}
 use borrow.Author.Rules.{rules}

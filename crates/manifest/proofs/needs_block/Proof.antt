@@ -5,7 +5,7 @@ use mathlib.Core.List.{List}
 use Rattle.blob.specs.Reading.{run}
 use Rattle.format.specs.Answer.{answer, needing}
 use Rattle.format.specs.Crim.{providers_of}
-use Rattle.format.specs.Theorems.Needed.{needed}
+use Rattle.format.proofs.Theorems.Needed.{needed}
 use Rattle.manifest.specs.Read.{block_refused, block-done}
 use Rattle.manifest.specs.Walked.{is_providers, no-providers}
 use borrow.Author.Rules.{rules}

@@ -5,10 +5,10 @@ use native.Mathlib.Omega.{arith}
 use borrow.Author.Rules.{rules}
 use lib.ListN.{length}
 use Rattle.blob.specs.Reading.{run}
-use Rattle.blob.specs.Laws.{many-refused, many-empty}
+use Rattle.blob.proofs.Laws.{many-refused, many-empty}
 use Rattle.format.specs.Definition.{step}
 use Rattle.format.specs.steps.Needs.{maps_read}
-use Rattle.format.specs.Theorems.Counting.{counted-all, counted_none}
+use Rattle.format.proofs.Theorems.Counting.{counted-all, counted_none}
 use Rattle.map.specs.Decides.{is_refused}
 use Rattle.map.specs.Listed.{listed_at, listed}
 use Rattle.map.specs.Next.{unread, counted_from, next-counted}

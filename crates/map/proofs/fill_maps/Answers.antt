@@ -2,7 +2,7 @@
 use mathlib.Core.Path.{ap, sym, ◌∙◌}
 use native.Mathlib.Omega.{arith}
 use Rattle.blob.specs.Reading.{verdict}
-use Rattle.format.specs.Theorems.Ends.{region-bounds}
+use Rattle.format.proofs.Theorems.Ends.{region-bounds}
 use Rattle.map.specs.Listed.{maps-never, maps-room, maps-listed}
 use borrow.Author.Rules.{rules}
 use Rattle.map.proofs.fill_maps.Goals as goal

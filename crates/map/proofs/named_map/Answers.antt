@@ -1,10 +1,10 @@
 -- By the name's check.
 use mathlib.Core.Path.{ap, sym, ◌∙◌}
 use borrow.Author.Rules.{rules}
-use Rattle.blob.specs.Laws.{refused-value}
+use Rattle.blob.proofs.Laws.{refused-value}
 use Rattle.format.specs.declared.MapRead.TheVariants as read
 use Rattle.format.specs.Region.{blob_end}
-use Rattle.format.specs.Theorems.Until.{name-until}
+use Rattle.format.proofs.Theorems.Until.{name-until}
 use Rattle.map.specs.Decides.{named_map}
 use Rattle.map.proofs.named_map.Goals as goal
 

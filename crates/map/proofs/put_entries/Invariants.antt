@@ -4,7 +4,7 @@ use mathlib.Core.Path.{◌≡◌, refl, sym, ◌∙◌}
 use native.Mathlib.Omega.{arith}
 use borrow.Author.Rules.{rules}
 use lib.ListN.{length}
-use Rattle.blob.specs.Laws.{rest, rest_more, rest-none}
+use Rattle.blob.proofs.Laws.{rest, rest_more, rest-none}
 use Rattle.format.specs.Area.{ENTRIES, width}
 use Rattle.format.specs.Definition.{step}
 use Rattle.format.specs.Map.{entry_at}

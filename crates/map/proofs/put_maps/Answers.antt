@@ -7,7 +7,7 @@ use lib.ListN.{length}
 use Rattle.blob.specs.declared.Verdict.TheVariants as verdicts
 use Rattle.blob.specs.Laid.{laid, flat}
 use Rattle.blob.specs.Reading.{run, verdict, values}
-use Rattle.blob.specs.Laws.{fill_none}
+use Rattle.blob.proofs.Laws.{fill_none}
 use Rattle.format.specs.Area.{MAPS, width}
 use Rattle.format.specs.Definition.{step}
 use Rattle.format.specs.steps.Needs.{entry_count}

@@ -10,7 +10,7 @@ use borrow.Author.Tests.{leb-true, ltb-true}
 use lib.Dec.{leb}
 use lib.ListN.{length}
 use Rattle.blob.specs.Reading.{run}
-use Rattle.blob.specs.Laws.{both}
+use Rattle.blob.proofs.Laws.{both}
 use Rattle.format.specs.Name.{text}
 use Rattle.name.specs.Text.{text-none, text-zero, text-below, text-above, text-pair, text-unpaired, text-four, pairs-two}
 use Rattle.name.proofs.units.Given as goal

@@ -5,7 +5,7 @@ use native.Mathlib.Omega.{arith}
 use borrow.Author.Rules.{rules}
 use lib.ListN.{length, get_or, drop}
 use Rattle.blob.specs.Reading.{done}
-use Rattle.blob.specs.Laws.{fine-value}
+use Rattle.blob.proofs.Laws.{fine-value}
 use Rattle.number.specs.Number.{LONG, number_at}
 use Rattle.number.specs.Scan.{Rest, rest_all, byte_left, byte-ends, byte-goes, read_fits}
 use Rattle.number.specs.declared.Number.{Number}

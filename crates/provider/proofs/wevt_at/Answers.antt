@@ -2,7 +2,7 @@
 use mathlib.Core.Path.{sym, ◌∙◌}
 use native.Mathlib.Omega.{arith}
 use borrow.Author.Rules.{rules}
-use Rattle.blob.specs.Laws.{answer-found, answer-refused}
+use Rattle.blob.proofs.Laws.{answer-found, answer-refused}
 use Rattle.format.specs.declared.WevtRead.TheVariants as read
 use Rattle.provider.specs.Wevt.{wevt_past, wevt_short, wevt_other, wevt_found}
 use Rattle.provider.proofs.wevt_at.Goals as goal

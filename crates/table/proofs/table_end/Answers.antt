@@ -2,9 +2,9 @@
 use mathlib.Core.Path.{refl, sym, ◌∙◌}
 use native.Mathlib.Omega.{arith}
 use borrow.Author.Rules.{rules}
-use Rattle.blob.specs.Laws.{answer-found, answer-refused}
+use Rattle.blob.proofs.Laws.{answer-found, answer-refused}
 use Rattle.format.specs.declared.EndRead.TheVariants as read
-use Rattle.format.specs.Theorems.Ends.{is_place, no_end}
+use Rattle.format.proofs.Theorems.Ends.{is_place, no_end}
 use Rattle.table.specs.Headers.{end-cut, end-by_count, end-unbounded, end-past, end-by_size}
 use Rattle.table.proofs.table_end.Goals as goal
 

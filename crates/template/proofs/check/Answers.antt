@@ -3,7 +3,7 @@ use mathlib.Core.Path.{ap, sym, ◌∙◌}
 use native.Mathlib.Omega.{arith}
 use borrow.Author.Rules.{rules}
 use Rattle.format.specs.steps.Needs.{templates_read}
-use Rattle.format.specs.Theorems.Ends.{region-bounds}
+use Rattle.format.proofs.Theorems.Ends.{region-bounds}
 use Rattle.template.specs.Templates.{templates-told, templates-refused}
 use Rattle.template.proofs.check.Goals as goal
 

@@ -8,7 +8,7 @@ use borrow.Author.Tests.{eq-eqb, ne_eqb, not-true, not-false}
 use borrow.Author.Rules.{rules}
 use Rattle.blob.specs.declared.Verdict.TheVariants as verdicts
 use Rattle.blob.specs.Reading.{then}
-use Rattle.blob.specs.Laws.{run_bind, run-number, run-demand}
+use Rattle.blob.proofs.Laws.{run_bind, run-number, run-demand}
 use Rattle.words.specs.Guid.{guid-found}
 use Rattle.item.specs.Items.{no_items}
 use Rattle.template.specs.Temp.{items-inside, fields_refused, fields_items}

@@ -5,7 +5,7 @@ use native.Mathlib.Omega.{arith}
 use borrow.Author.Rules.{rules}
 use borrow.Author.Tests.{le-leb, lt-leb, eq-eqb, ne_eqb}
 use Rattle.blob.specs.declared.Verdict.TheVariants as verdicts
-use Rattle.blob.specs.Laws.{run-number, run-demand}
+use Rattle.blob.proofs.Laws.{run-number, run-demand}
 use Rattle.format.specs.Region.{inside}
 use Rattle.format.specs.Template.{template_at}
 use Rattle.template.proofs.check_temp.Goals as goal

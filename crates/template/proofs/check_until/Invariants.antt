@@ -6,13 +6,13 @@ use lib.ListN.{length}
 use borrow.Author.Rules.{rules}
 use borrow.Author.Tests.{lt-leb}
 use Rattle.blob.specs.Reading.{run, many}
-use Rattle.blob.specs.Laws.{many-refused, many-empty, refused-value, run-fails}
+use Rattle.blob.proofs.Laws.{many-refused, many-empty, refused-value, run-fails}
 use Rattle.format.specs.Region.{until, inside}
 use Rattle.format.specs.Template.{Template, template_at, next}
 use Rattle.format.specs.Answer.{capped}
 use Rattle.format.specs.declared.EntriesRead.TheVariants as entries
 use Rattle.format.specs.steps.Needs.{templates_read}
-use Rattle.format.specs.Theorems.Counting.{counted_from, counted-all, counted_none, counted-more}
+use Rattle.format.proofs.Theorems.Counting.{counted_from, counted-all, counted_none, counted-more}
 use Rattle.template.specs.Temp.{fine-template, fine-count}
 use Rattle.template.specs.Templates.{turns, turns-again, turns_next}
 use Rattle.template.proofs.check_until.Given as goal

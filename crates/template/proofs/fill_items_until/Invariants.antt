@@ -8,7 +8,7 @@ use Rattle.blob.specs.declared.Verdict.TheVariants as verdicts
 use Rattle.blob.specs.Le.{le}
 use Rattle.blob.specs.Reading.{run, many, verdict, values}
 use Rattle.blob.specs.Laid.{laid, flat}
-use Rattle.blob.specs.Laws.{many_more, values-none, fill_none}
+use Rattle.blob.proofs.Laws.{many_more, values-none, fill_none}
 use Rattle.format.specs.Area.{ITEMS, width}
 use Rattle.format.specs.Region.{until}
 use Rattle.format.specs.Template.{template_at, next}

@@ -6,7 +6,7 @@ use lib.ListN.{length}
 use borrow.Author.Rules.{rules}
 use Rattle.blob.specs.declared.Verdict.TheVariants as verdicts
 use Rattle.blob.specs.Reading.{run, many, verdict}
-use Rattle.blob.specs.Laws.{many_more, rest, rest_more, rest-none}
+use Rattle.blob.proofs.Laws.{many_more, rest, rest_more, rest-none}
 use Rattle.format.specs.Area.{TEMPLATES, width}
 use Rattle.format.specs.Region.{until}
 use Rattle.format.specs.Template.{template_at, next}

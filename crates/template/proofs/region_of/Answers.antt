@@ -2,7 +2,7 @@
 use mathlib.Core.Path.{ap, sym, ◌∙◌}
 use borrow.Author.Rules.{rules}
 use Rattle.blob.specs.Reading.{verdict}
-use Rattle.blob.specs.Laws.{not_fine}
+use Rattle.blob.proofs.Laws.{not_fine}
 use Rattle.template.specs.Templates.{templates-refused}
 use Rattle.template.proofs.region_of.Goals as goal
 

@@ -5,7 +5,7 @@ use borrow.Author.Tests.{leb-true}
 use Rattle.std.proofs.Math.ListN.{length}
 use Rattle.blob.specs.declared.Refusal.{Refusal}
 use Rattle.blob.specs.Reading.{Outcome, done, refused, run}
-use Rattle.blob.specs.Finds.{Finds, finds-got, finds-room, finds-choose, finds-demand, finds_bind}
+use Rattle.blob.proofs.Finds.{Finds, finds-got, finds-room, finds-choose, finds-demand, finds_bind}
 use Rattle.format.specs.Region.{end, bounded, region_at, end_read}
 use Rattle.format.specs.declared.EndRead.TheVariants as ends
 

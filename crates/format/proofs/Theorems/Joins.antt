@@ -7,7 +7,7 @@ use Rattle.std.proofs.Math.Bool.{true, false}
 use mathlib.Core.List.{List, [], ◌∷◌, ◌++◌, map, map-append, append_assoc}
 use Rattle.std.proofs.Math.ListN.{length, length-map}
 use Rattle.blob.specs.Reading.{Outcome, done, refused, choose}
-use Rattle.blob.specs.Laws.{choose-done}
+use Rattle.blob.proofs.Laws.{choose-done}
 use Rattle.blob.specs.Laid.{flat, flat_map}
 use Rattle.format.specs.Area.{PROVIDERS, TABLES, EVENTS, TEMPLATES, GUIDS, Row, rows, place, none, of}
 use Rattle.format.specs.Entry.{GUID, EVENT_TEMPLATE, TEMPLATE_PROVIDER, TEMPLATE_OFFSET, TEMPLATE_GUID}
@@ -20,14 +20,14 @@ use Rattle.format.specs.Lookup.{entries_of, word_of, counts_fit, select, positio
 use Rattle.format.specs.Join.{those, the_first, events_of, templates_of, asked, guids_from, join}
 use Rattle.format.specs.steps.Needs.{of_tables}
 use Rattle.format.specs.steps.Parts.{behind_all}
-use Rattle.format.specs.Theorems.Grows.{behind_all-grows}
-use Rattle.format.specs.Theorems.Listed.{owned, owned_words, owned_then, itemized, lists-itemized, First}
-use Rattle.format.specs.Theorems.Needed.{map_list_length, owned_words_length}
-use Rattle.format.specs.Theorems.Fits.{tables, ends, tables_end}
-use Rattle.format.specs.Theorems.Known.{All, all_append, all-part, Known, Sound, owned-known, known}
-use Rattle.format.specs.Theorems.Codes.{refused-code}
-use Rattle.format.specs.Theorems.Taken.{read, filled-length, taken}
-use Rattle.format.specs.Theorems.Ranges.{event_items, template_items, events-range, templates-range, tables-own}
+use Rattle.format.proofs.Theorems.Grows.{behind_all-grows}
+use Rattle.format.proofs.Theorems.Listed.{owned, owned_words, owned_then, itemized, lists-itemized, First}
+use Rattle.format.proofs.Theorems.Needed.{map_list_length, owned_words_length}
+use Rattle.format.proofs.Theorems.Fits.{tables, ends, tables_end}
+use Rattle.format.proofs.Theorems.Known.{All, all_append, all-part, Known, Sound, owned-known, known}
+use Rattle.format.proofs.Theorems.Codes.{refused-code}
+use Rattle.format.proofs.Theorems.Taken.{read, filled-length, taken}
+use Rattle.format.proofs.Theorems.Ranges.{event_items, template_items, events-range, templates-range, tables-own}
 use Rattle.format.specs.declared.Answer.{Answer}
 use Rattle.format.specs.declared.Key.{Key}
 use Rattle.format.specs.Template.{Template}

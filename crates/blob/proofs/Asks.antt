@@ -9,7 +9,7 @@ use Rattle.blob.specs.Le.{le}
 use Rattle.blob.specs.Laid.{flat}
 use Rattle.blob.specs.Places.{Each, span, rows}
 use Rattle.blob.specs.Reading.{Fault, Reading, got, stop, room, byte, Outcome, done, refused, choose, demand, run, places, ◌>>=◌, number, many, each, then}
-use Rattle.blob.specs.Laws.{never, same, run_bind, finds-number}
+use Rattle.blob.proofs.Laws.{never, same, run_bind, finds-number}
 
 -- where the reading is accepted, its value and the places that it asks for are as P says; accepted or refused, each of these places
 -- lies in the blob

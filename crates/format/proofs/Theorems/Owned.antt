@@ -8,7 +8,7 @@ use mathlib.Core.List.{List, [], ◌∷◌, ◌++◌, map, append_assoc}
 use Rattle.std.proofs.lemmas.List.{length-map}
 use Rattle.std.proofs.lemmas.Bool.{lt-leb}
 use Rattle.blob.specs.Reading.{done, choose}
-use Rattle.blob.specs.Laws.{passes}
+use Rattle.blob.proofs.Laws.{passes}
 use Rattle.blob.specs.Laid.{flat}
 use Rattle.format.specs.Area.{TABLES, EVENTS, TEMPLATES, rows, place, none, of}
 use Rattle.format.specs.Entry.{TABLE_PROVIDER, TEMPLATE_OFFSET}
@@ -21,12 +21,12 @@ use Rattle.format.specs.Lookup.{word_of, select}
 use Rattle.format.specs.Join.{those, some, events_of, templates_of, joins, joined}
 use Rattle.format.specs.Owner.{member, firsts, ranges, each_owned, finds, found_from, events_owned, found_events}
 use Rattle.format.specs.steps.Needs.{of_tables}
-use Rattle.format.specs.Theorems.Listed.{owned, owned_words, owned_then}
-use Rattle.format.specs.Theorems.Needed.{owned_words_length}
-use Rattle.format.specs.Theorems.Known.{All, Known, Sound, owned-known, known}
-use Rattle.format.specs.Theorems.Taken.{read, taken}
-use Rattle.format.specs.Theorems.Ranges.{those-append, those-map, last_one, kept-events, events-more, events-counted, templates-range}
-use Rattle.format.specs.Theorems.Joins.{table_list, template_list}
+use Rattle.format.proofs.Theorems.Listed.{owned, owned_words, owned_then}
+use Rattle.format.proofs.Theorems.Needed.{owned_words_length}
+use Rattle.format.proofs.Theorems.Known.{All, Known, Sound, owned-known, known}
+use Rattle.format.proofs.Theorems.Taken.{read, taken}
+use Rattle.format.proofs.Theorems.Ranges.{those-append, those-map, last_one, kept-events, events-more, events-counted, templates-range}
+use Rattle.format.proofs.Theorems.Joins.{table_list, template_list}
 use Rattle.format.specs.declared.Event.{Event}
 
 -- whether a test picks one of the values that a function gives

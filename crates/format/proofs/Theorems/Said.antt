@@ -11,7 +11,7 @@ use Rattle.format.specs.Answer.{own, lent_enough, capped}
 use Rattle.format.specs.Lookup.{entries_of, counts_fit, position, numbered, by_offset, guids_found}
 use Rattle.format.specs.Says.{verdict_told, end_told, header_told, map_told, entries_told, crim_told, wevt_told, guids_told, template_told}
 use Rattle.format.specs as format
-use Rattle.format.specs.Theorems.Grows.{choose-either}
+use Rattle.format.proofs.Theorems.Grows.{choose-either}
 
 -- an enum is the answer for an outcome exactly where it tells that outcome, or what it keeps of it
 abbrev pub Exactly : {A R : Type 0} → (R → Outcome A) → (Outcome A → R) → Type 0

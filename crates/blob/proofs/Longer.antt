@@ -3,7 +3,7 @@
 use Rattle.std.specs.Prelude.{ℕ, ◌≤◌, ◌≡◌, refl, List, [], Bool, true, false, length, get_or, leb}
 use Rattle.std.proofs.Common.{arith, le-leb, leb-true}
 use Rattle.blob.specs.Places.{Each}
-use Rattle.blob.specs.Laws.{never}
+use Rattle.blob.proofs.Laws.{never}
 use Rattle.blob.specs.Reading.{Reading, got, stop, room, byte, done, refused, choose, run, places}
 
 -- two blobs agree on each of some places

@@ -7,7 +7,7 @@ use mathlib.Core.List.{List, [], ◌∷◌, ◌++◌, map, append_assoc, append-
 use Rattle.std.proofs.lemmas.List.{length-map}
 use Rattle.std.proofs.Math.Seq.{take-append_seam, drop-append_seam}
 use Rattle.blob.specs.Reading.{choose}
-use Rattle.blob.specs.Laws.{both}
+use Rattle.blob.proofs.Laws.{both}
 use Rattle.blob.specs.Laid.{flat, flat_map, map-flat}
 use Rattle.format.specs.Area.{DEFINITIONS, EVENTS, MAPS, TEMPLATES, rows, place, none, of, more}
 use Rattle.format.specs.Table.{EVNT, TTBL, kind_list}
@@ -17,8 +17,8 @@ use Rattle.format.specs.Lists.{Entry, or_else, last_of, kept, Owned, owned_table
 use Rattle.format.specs.Entry.{TABLE_PROVIDER, TABLE_KIND}
 use Rattle.format.specs.Lookup.{word_of, every, select, range_of, all_of, tables_own, owned_by}
 use Rattle.format.specs.Join.{those, the_first, events_of, templates_of}
-use Rattle.format.specs.Theorems.Listed.{owned}
-use Rattle.format.specs.Theorems.Known.{All, Known, Sound, owned-known}
+use Rattle.format.proofs.Theorems.Listed.{owned}
+use Rattle.format.proofs.Theorems.Known.{All, Known, Sound, owned-known}
 
 -- a provider's tables of a kind, and its entries of them
 abbrev of_kind : ℕ → ℕ → Owned → Bool

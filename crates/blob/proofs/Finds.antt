@@ -4,7 +4,7 @@ use Rattle.std.proofs.Common.{sym, ◌∙◌, leb-true}
 use Rattle.std.proofs.Math.Path.{subst}
 use Rattle.blob.specs.Le.{le}
 use Rattle.blob.specs.Reading.{Fault, Reading, got, room, done, choose, demand, run, ◌>>=◌, number}
-use Rattle.blob.specs.Laws.{same, choose-done, then-done, run_bind, run-number, run-demand}
+use Rattle.blob.proofs.Laws.{same, choose-done, then-done, run_bind, run-number, run-demand}
 
 -- where the reading is accepted, its value is as P says
 pub record Finds {A : Type 0} (r : Reading A) (s : List ℕ) (P : A → Type 0) : Type 0 where

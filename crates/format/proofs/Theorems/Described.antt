@@ -2,7 +2,7 @@
 use Rattle.std.specs.Prelude.{ℕ, ◌+◌, ◌*◌, ◌≤◌, ◌≡◌, refl, List, length}
 use Rattle.blob.specs.Le.{le}
 use Rattle.blob.specs.Reading.{Reading, done, run, number, many, each}
-use Rattle.blob.specs.Finds.{Finds, finds-got, finds-room, finds_bind, finds-next}
+use Rattle.blob.proofs.Finds.{Finds, finds-got, finds-room, finds_bind, finds-next}
 use Rattle.format.specs.Definition.{guid_at, step}
 use Rattle.format.specs.Provider.{Provider, wevt_at, descriptor_at, element_at, provider_at}
 use Rattle.format.specs.Crim.{described_at}

@@ -4,7 +4,7 @@ use Rattle.std.specs.Prelude.{ℕ, ◌≤◌, ◌≡◌, refl, Bool, true, false
 use Rattle.std.proofs.Common.{sym, arith}
 use Rattle.blob.specs.declared.Refusal.{Refusal}
 use Rattle.blob.specs.Reading.{Outcome, done, refused, choose, then}
-use Rattle.blob.specs.Laws.{never, run-coded}
+use Rattle.blob.proofs.Laws.{never, run-coded}
 use Rattle.format.specs.Refuse.{a_code}
 use Rattle.format.specs.Crim.{header, providers_of, crim}
 use Rattle.format.specs.Area.{Row, rows}

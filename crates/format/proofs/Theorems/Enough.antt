@@ -2,7 +2,7 @@
 use Rattle.std.specs.Prelude.{ℕ, ◌≤◌, true, ◌≡◌, refl, List, [], ◌∷◌, map, length, leb}
 use Rattle.std.proofs.Common.{arith, le-leb, leb-true}
 use Rattle.blob.specs.Reading.{done, then}
-use Rattle.blob.specs.Laws.{both, choose-done}
+use Rattle.blob.proofs.Laws.{both, choose-done}
 use Rattle.format.specs.Crim.{Crim, crim}
 use Rattle.format.specs.Area.{Row, rows}
 use Rattle.format.specs.Lists.{Entry, lists}

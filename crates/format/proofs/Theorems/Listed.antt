@@ -13,7 +13,7 @@ use Rattle.format.specs.Lists.{Entry, provider_words, descriptor_words, unknown2
 use Rattle.format.specs.Area.{PROVIDERS, DESCRIPTORS, UNKNOWN2, TABLES, DEFINITIONS, EVENTS, MAPS, ENTRIES, TEMPLATES, UNKNOWN, ITEMS, rows, place, none, of, more}
 use Rattle.format.specs.steps.Needs.{total, entry_count, of_tables, entries_in}
 use Rattle.format.specs.steps.Parts.{table_part, table_parts, behind, behind_all, part, passed, parts}
-use Rattle.format.specs.Theorems.Grows.{behind_all-length}
+use Rattle.format.proofs.Theorems.Grows.{behind_all-length}
 
 abbrev pub owned : ℕ → List Table → List Owned
 owned n ts = map (λ t. record { provider = n; table = t }) ts

@@ -13,9 +13,9 @@ use Rattle.format.specs.Lists.{Entry, provider_words, descriptor_words, unknown2
 use Rattle.format.specs.Answer.{counted, capped}
 use Rattle.format.specs.steps.Needs.{total, after_all, of_tables, entries_in, has, needs_all}
 use Rattle.format.specs.steps.Parts.{Few, Counted, behind, behind_all, parts, passed_all}
-use Rattle.format.specs.Theorems.Grows.{set_same, behind_all-same, behind_all-length, passed_all-tables}
-use Rattle.format.specs.Theorems.Listed.{owned_words, owned_then, itemized, lists-itemized, first, number, listed}
-use Rattle.format.specs.Theorems.Needed.{total-length, after-all, counted_has, needed}
+use Rattle.format.proofs.Theorems.Grows.{set_same, behind_all-same, behind_all-length, passed_all-tables}
+use Rattle.format.proofs.Theorems.Listed.{owned_words, owned_then, itemized, lists-itemized, first, number, listed}
+use Rattle.format.proofs.Theorems.Needed.{total-length, after-all, counted_has, needed}
 
 -- entries of so many words each
 pub data Wide (k : ℕ) : List Entry → Type 0 where

@@ -13,8 +13,8 @@ use borrow.Author.Tests.{leb-true, eqb-true}
 use Rattle.blob.specs.Le.{le}
 use Rattle.blob.specs.Places.{Each, span, rows}
 use Rattle.blob.specs.Reading.{Fault, Reading, got, done, choose, run, places, ◌>>=◌, number, many}
-use Rattle.blob.specs.Laws.{then-done, same}
-use Rattle.blob.specs.Asks.{Asks, asks_got, asks_stop, asks_room, asks_choose, asks_demand, asks_bind, asks_so, asks_fixed, asks_number, asks_next, asks_many, asks_each, asked-append, asked-behind, asked-last, span-append, span-join, inside_span, inside_append}
+use Rattle.blob.proofs.Laws.{then-done, same}
+use Rattle.blob.proofs.Asks.{Asks, asks_got, asks_stop, asks_room, asks_choose, asks_demand, asks_bind, asks_so, asks_fixed, asks_number, asks_next, asks_many, asks_each, asked-append, asked-behind, asked-last, span-append, span-join, inside_span, inside_append}
 use Rattle.format.specs.Name.{text, sized, name_at, absent, high}
 use Rattle.format.specs.Region.{Region, blob_end, until, inside, bounded, region_at}
 use Rattle.format.specs.Table.{CHAN, EVNT, KEYW, LEVL, MAPS, OPCO, TASK, TTBL, signature, kinds, kind_in, header_length, stride, header_at, table_end}

@@ -3,7 +3,7 @@ use Rattle.std.specs.Prelude.{ℕ, ◌+◌, ◌-◌, ◌≤◌, ◌<◌, ◌≡�
 use Rattle.std.proofs.Math.Path.{ap}
 use Rattle.std.proofs.Common.{arith}
 use Rattle.blob.specs.Reading.{Reading, Outcome, done, refused, run, many}
-use Rattle.blob.specs.Laws.{told_more}
+use Rattle.blob.proofs.Laws.{told_more}
 use Rattle.format.specs.Answer.{capped}
 use Rattle.format.specs.steps.Needs.{total, count_read}
 use Rattle.format.specs.declared.EntriesRead.{EntriesRead}

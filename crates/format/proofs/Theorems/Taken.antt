@@ -11,15 +11,15 @@ use Rattle.std.proofs.lemmas.List.{take-set-le}
 use Rattle.std.proofs.lemmas.List.Edits.{sets, sets-eq}
 use borrow.Author.Tests.{leb-true, eqb-true}
 use Rattle.blob.specs.Reading.{Outcome, done, then}
-use Rattle.blob.specs.Laws.{same, both, passes, choose-done, then-done}
+use Rattle.blob.proofs.Laws.{same, both, passes, choose-done, then-done}
 use Rattle.blob.specs.Laid.{laid, flat, length-laid}
 use Rattle.format.specs.Area.{Row, rows, place}
 use Rattle.format.specs.Crim.{Crim, crim}
 use Rattle.format.specs.Lists.{Entry, lists}
 use Rattle.format.specs.Answer.{own, moderate, areas, lent_enough, with_room, reading, counted, filled, held}
 use Rattle.format.specs.Lookup.{entries_from, entries_of}
-use Rattle.format.specs.Theorems.Listed.{number}
-use Rattle.format.specs.Theorems.Fits.{Wide, empty, more, wide_length, lists-wide}
+use Rattle.format.proofs.Theorems.Listed.{number}
+use Rattle.format.proofs.Theorems.Fits.{Wide, empty, more, wide_length, lists-wide}
 
 -- some words behind a place, out of the words up to their end
 part-before : (n p : ℕ) (l : List ℕ) → take n (drop p l) ≡ drop p (take (p + n) l)

@@ -9,16 +9,16 @@ use mathlib.Core.List.{List, [], ◌∷◌, ◌++◌}
 use Rattle.std.proofs.Common.{arith}
 use borrow.Author.Tests.{eqb-false}
 use Rattle.blob.specs.Reading.{Reading, got, done, choose, run, ◌>>=◌, many, each}
-use Rattle.blob.specs.Laws.{same, then-done}
-use Rattle.blob.specs.Finds.{Finds, finds-got, finds-room, finds-choose, finds_bind, finds-next}
+use Rattle.blob.proofs.Laws.{same, then-done}
+use Rattle.blob.proofs.Finds.{Finds, finds-got, finds-room, finds-choose, finds_bind, finds-next}
 use Rattle.blob.specs.Laid.{flat}
 use Rattle.format.specs.Table.{CHAN, KEYW, LEVL, MAPS, OPCO, TASK, TTBL, kinds, kind_of, kind_list}
 use Rattle.format.specs.Provider.{Rows, definitions, maps, templates, Table, Element, table, unknown, Provider, plain, events_at, table_at, unknown_at, element_of, element_at, provider_at}
 use Rattle.format.specs.Crim.{Crim, header, described_at, providers_of, crim}
 use Rattle.format.specs.Lists.{or_else, last_of, kept, Owned, owned_tables, list_of}
 use Rattle.format.specs.Definition.{step}
-use Rattle.format.specs.Theorems.Listed.{owned}
-use Rattle.format.specs.Theorems.Rested.{kind-cases}
+use Rattle.format.proofs.Theorems.Listed.{owned}
+use Rattle.format.proofs.Theorems.Rested.{kind-cases}
 use Rattle.format.specs.declared.Header.{Header}
 use Rattle.format.specs.declared.CrimHeader.{CrimHeader}
 use Rattle.format.specs.declared.Descriptor.{Descriptor}

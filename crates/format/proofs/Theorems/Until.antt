@@ -3,11 +3,11 @@ use Rattle.std.specs.Prelude.{ℕ, ◌≡◌, refl, List, Bool, true, false, len
 use Rattle.std.proofs.Common.{ap, sym, ◌∙◌}
 use Rattle.blob.specs.declared.Refusal.{Refusal}
 use Rattle.blob.specs.Reading.{Fault, Reading, got, refused, choose, run, ◌>>=◌}
-use Rattle.blob.specs.Laws.{run-after, run-stopped, run-number, run-demand}
+use Rattle.blob.proofs.Laws.{run-after, run-stopped, run-number, run-demand}
 use Rattle.format.specs.Region.{Region, blob_end, until, end, inside, end_read}
 use Rattle.format.specs.Name.{absent, sized, name_at}
 use Rattle.format.specs.Template.{template_at}
-use Rattle.format.specs.Theorems.Ends.{is_end, no_end}
+use Rattle.format.proofs.Theorems.Ends.{is_end, no_end}
 use Rattle.format.specs.declared.EndRead.TheVariants as read
 
 -- a place is in a region where it is not past the region's end

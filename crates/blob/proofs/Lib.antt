@@ -1,0 +1,4 @@
+pub mod Laws
+pub mod Finds
+pub mod Asks
+pub mod Longer

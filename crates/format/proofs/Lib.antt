@@ -1,0 +1,2 @@
+-- Theorems about it.
+pub mod Theorems

@@ -1,0 +1,25 @@
+-- What holds of the definition.
+pub mod Cases
+pub mod Examples
+pub mod Words
+pub mod Order
+pub mod Codes
+pub mod Determined
+pub mod Said
+pub mod Ends
+pub mod Until
+pub mod Described
+pub mod Rested
+pub mod Block
+pub mod Grows
+pub mod Stored
+pub mod Listed
+pub mod Counting
+pub mod Needed
+pub mod Fits
+pub mod Enough
+pub mod Known
+pub mod Taken
+pub mod Ranges
+pub mod Joins
+pub mod Owned
