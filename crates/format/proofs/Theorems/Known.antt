@@ -21,6 +21,7 @@ use Rattle.format.proofs.Theorems.Listed.{owned}
 use Rattle.format.proofs.Theorems.Rested.{kind-cases}
 use Rattle.format.specs.declared.Header.{Header}
 use Rattle.format.specs.declared.CrimHeader.{CrimHeader}
+use Rattle.format.specs.declared.Guid.{Guid}
 use Rattle.format.specs.declared.Descriptor.{Descriptor}
 
 -- what holds of each of some values
@@ -77,12 +78,15 @@ module _ (P : Table → Type 0) where
         (λ _. of-unknown d.offset)
         (λ n. finds_bind _ (anything s) (λ h _. finds_bind P (f d.signature _ h (omega (arith, eqb-false k 0 n))) (λ t q. finds-got q)))
 
-    of-described : (at : ℕ) → Finds (described_at at) s (λ p. All OfElement p.elements)
-    unfolding described_at provider_at
-    of-described at =
-        finds_bind _ (anything s) (λ guid _. finds-next 4 _ (λ offset _.
+    of-provider : (guid : Guid) (at : ℕ) → Finds (provider_at guid at) s (λ p. All OfElement p.elements)
+    unfolding provider_at
+    of-provider guid at =
         finds_bind _ (anything s) (λ w _. finds-room (λ _. finds_bind _ (anything s) (λ ds _. finds-room (λ _. finds_bind _ (anything s) (λ u _.
-        finds_bind _ (finds-each s OfElement of-element ds) (λ es q. finds-got q))))))))
+        finds_bind _ (finds-each s OfElement of-element ds) (λ es q. finds-got q))))))
+
+    of-described : (at : ℕ) → Finds (described_at at) s (λ p. All OfElement p.elements)
+    unfolding described_at
+    of-described at = finds_bind _ (anything s) (λ guid _. finds-next 4 _ (λ offset _. of-provider guid offset))
 
     of-providers : (h : CrimHeader) → Finds (providers_of h) s (All (λ p. All OfElement p.elements))
     unfolding providers_of
