@@ -6,7 +6,7 @@ ghost use Rattle.format.specs.Area.{AREAS};
 ghost use Rattle.format.specs.Answer as spec;
 ghost use Rattle.format.specs.Lookup as right;
 ghost use Rattle.format.specs.Call as call;
-ghost use Rattle.format.specs.Call.{called as calledBlock};
+ghost use Rattle.format.specs.Call.{called as called_block};
 ghost use Rattle.index.specs.Index as index;
 ghost use Rattle.index.specs.Call as called;
 
@@ -39,8 +39,8 @@ fn refusal(blob: &[u8]) -> Answer
 
 // The answer, with n numbers to store it in.
 fn read(blob: &[u8], words: &mut [u32], capacities: &[u32], n: usize) -> Answer
-    ensures value { result ≡ spec.answer (calledBlock blob.now words.old capacities.now n) }
-    ensures words_after { words.new ≡ spec.held words.old capacities.now (calledBlock blob.now words.old capacities.now n) }
+    ensures value { result ≡ spec.answer (called_block blob.now words.old capacities.now n) }
+    ensures words_after { words.new ≡ spec.held words.old capacities.now (called_block blob.now words.old capacities.now n) }
 {
     if capacities.len() != AREAS {
         return refusal(blob);
