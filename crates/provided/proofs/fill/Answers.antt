@@ -41,3 +41,31 @@ pub returns-in_default : goal.returns-in_default
 returns-in_default c =
     let x = filled-tables _ _ c.requires.at_in_bounds.2 _ c.wevt_of-v.ensures c.args.number c.args.before.now c.args.area.now c.args.list c.in_default.in_default-own.rest.0.0.0.1 c.in_default.in_default-own.rest.0.0.1 c.in_default.in_default-own.rest.0.1 c.in_default.in_default-own.rest.1 in
     rw (x.0, x.1) (rw c.word-offset.ensures at c.fill_tables.ensures)
+
+pub fill_unknown-requires : goal.fill_unknown-requires
+fill_unknown-requires c =
+    let k = given _ _ c.requires.at_in_bounds.2 _ c.wevt_of-v.ensures in
+    let x = filled-unknown _ _ c.requires.at_in_bounds.2 _ c.wevt_of-v.ensures c.args.number c.args.before.now c.args.area.now in
+    record {
+      n_in_bounds = rw c.word-offset.ensures (k.array, c.requires.at_in_bounds.1);
+      b_value = rw c.word-offset.ensures (ap verdict k.elements);
+      b_in_bounds = rw c.word-offset.ensures (omega (arith, x.0.0 (rw c.in-10.is at c.requires.provider_room), x.1));
+    }
+
+pub fill_tables-requires : goal.fill_tables-requires
+fill_tables-requires c =
+    let k = given _ _ c.requires.at_in_bounds.2 _ c.wevt_of-v.ensures in
+    let r = c.in_default.in_default-own.rest in
+    let x = filled-tables _ _ c.requires.at_in_bounds.2 _ c.wevt_of-v.ensures c.args.number c.args.before.now c.args.area.now c.args.list r.0.0.0.1 r.0.0.1 r.0.1 r.1 in
+    record {
+      n_in_bounds = rw c.word-offset.ensures (k.array, c.requires.at_in_bounds.1);
+      b_value = rw c.word-offset.ensures (ap verdict k.elements);
+      tables_room = rw c.word-offset.ensures (rw (x.0, x.1) at c.requires.provider_room);
+    }
+
+pub returns-in-10 : goal.returns-in-10
+returns-in-10 c =
+    let x = filled-unknown _ _ c.requires.at_in_bounds.2 _ c.wevt_of-v.ensures c.args.number c.args.before.now c.args.area.now in
+    let value = rw c.word-offset.ensures at c.fill_unknown.ensures.value in
+    let after = rw c.word-offset.ensures at c.fill_unknown.ensures.area_after in
+    rw c.in-10.is (x.0.1 _ _ (value ∙ sym x.1) after)

@@ -45,3 +45,6 @@ returns c =
     ∙ provider-found _ _ _ c.word-offset.ensures _ (sym c.in-Wevt.is ∙ c.wevt_at.ensures)
     (had_room _ _ _ (sym c.in_default.is ∙ c.whole.ensures)) (sym c.check_descriptors.ensures ∙ c.in_default-check_descriptors.is)
     (had_room _ _ _ (sym c.in_default-whole.is ∙ c.whole-2.ensures)) _ _ c.check-e.ensures c.in_default-verdict.is
+
+pub check_descriptors-requires : goal.check_descriptors-requires
+check_descriptors-requires c = had_room _ _ _ (sym c.in_default.is ∙ c.whole.ensures)

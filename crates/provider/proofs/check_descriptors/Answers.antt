@@ -28,3 +28,6 @@ loop-left-preserved c =
 
 pub returns : goal.returns
 returns c = sym (c.loop-left.invariant.1 ∙ many-none descriptor_at (step 8) _ _ _ c.loop-left-test.false)
+
+pub returns-then-furthest-b : goal.returns-then-furthest-b
+returns-then-furthest-b c = sym (furthest-fits _ _ _ (omega (arith, c.furthest.ensures)))

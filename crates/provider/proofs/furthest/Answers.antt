@@ -7,6 +7,12 @@ use borrow.Author.Rules.{rules}
 use lib.ListN.{length}
 use Rattle.provider.specs.Wevt.{furthest, furthest-more, furthest-none}
 use Rattle.provider.proofs.furthest.Goals as goal
+use Rattle.provider.proofs.furthest.Goals.{then-most-place, else-most-place}
 
 pub returns : goal.returns
 returns c = sym (c.loop-left.invariant.1 ∙ furthest-none _ _ _ _ c.loop-left-test.false)
+
+pub loop-left-preserved : goal.loop-left-preserved
+loop-left-preserved c =
+    let more = furthest-more c.args.b.now c.loop-left.left c.loop-left.at c.loop-left-test.true in
+    (omega arith, elim c.if-most-place.branch [ then-most-place w ↦ omega arith | else-most-place w ↦ omega arith ])

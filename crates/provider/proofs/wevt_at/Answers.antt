@@ -16,3 +16,9 @@ pub returns : goal.returns
 returns c =
     answer-found read.Wevt read.Refused _ _ _ (rw (c.word-4.ensures, c.word-3.ensures, c.word-2.ensures, c.word.ensures))
     (wevt_found _ _ (omega arith) (sym c.word-found.ensures ∙ c.if-found-ne-WEVT.false))
+
+pub returns-then-b-at : goal.returns-then-b-at
+returns-then-b-at c = answer-refused read.Wevt read.Refused _ _ _ c.offset_out.ensures (wevt_past _ _ (omega arith))
+
+pub returns-then-b-at-lt20 : goal.returns-then-b-at-lt20
+returns-then-b-at-lt20 c = answer-refused read.Wevt read.Refused _ _ _ c.truncated.ensures (wevt_short _ _ (omega arith) (omega arith))

@@ -1,0 +1,23 @@
+-- The invariant: what is left decides. The lists from a row on, laid from here, make the words what they shall be.
+use Prim.Native.Nat.{◌+◌, ◌-◌, ◌≤◌}
+use mathlib.Core.Path.{◌≡◌, refl, sym, ◌∙◌}
+use native.Mathlib.Omega.{arith}
+use borrow.Author.Rules.{rules}
+use lib.ListN.{length, drop}
+use Rattle.format.specs.Area.{rows, AREAS}
+use Rattle.format.specs.Lists.{lists}
+use Rattle.format.specs.Answer.{areas, filled}
+use Rattle.counts.specs.Short.{areas-step}
+use Rattle.areas.specs.Areas.{providers_in, lent_both, area_fits, no_words, fill_step, fill_end}
+use Rattle.areas.proofs.fill_areas.Given as goal
+
+abbrev pub invariant-loop-i : goal.invariant-loop-i
+invariant-loop-i l =
+    (l.i ≤ AREAS)
+    × (length l.words ≡ length l.initial.words)
+    × (length l.capacities ≡ AREAS)
+    × (l.to + areas (drop l.i rows) (drop l.i l.capacities) ≤ length l.words)
+    × (filled l.initial.words 0 rows l.capacities (lists (providers_in l.n l.b)) ≡ filled l.words l.to (drop l.i rows) (drop l.i l.capacities) (drop l.i (lists (providers_in l.n l.b))))
+
+abbrev pub decreases-loop-i : goal.decreases-loop-i
+decreases-loop-i l = AREAS - l.i
