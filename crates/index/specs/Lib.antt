@@ -3,5 +3,3 @@ pub mod Index
 pub mod Call
 -- What the code speaks of besides.
 pub mod Read
--- What holds of it.
-pub mod Theorems

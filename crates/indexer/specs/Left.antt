@@ -7,7 +7,7 @@ use Rattle.std.proofs.lemmas.List.{length-map}
 use Rattle.blob.specs.Reading.{choose}
 use Rattle.blob.specs.Laid.{laid, laid_more, flat, flat_append}
 use Rattle.number.specs.Number.{form}
-use Rattle.number.specs.Forms.{form-short}
+use Rattle.number.proofs.Forms.{form-short}
 use Rattle.counts.specs.Short.{drop_more}
 use Rattle.format.specs.Area.{PROVIDERS, EVENTS, width}
 use Rattle.format.specs.Lists.{Entry}

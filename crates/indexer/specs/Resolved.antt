@@ -17,7 +17,7 @@ use Rattle.format.specs.Entry.{TABLE_PROVIDER, TABLE_KIND, EVENT_TEMPLATE}
 use Rattle.format.specs.Join.{those, some}
 use Rattle.format.specs.Lookup.{entries_from, entries_of, word_of, select, every, table_fits, tables_fit, range_of, owned_by}
 use Rattle.format.specs.Owner.{finds, owners_of, found_from}
-use Rattle.number.specs.Scan.{untrue}
+use Rattle.number.proofs.Scan.{untrue}
 use Rattle.lists.specs.Entries.{entries_next, entries_none}
 use Rattle.lists.specs.Fit.{inside}
 use Rattle.lists.specs.Found.{entries, few, owned, Fit}

@@ -1,4 +1,6 @@
 // Numbers in seven-bit groups: one coder for all widths. A width is given as the largest number that has it.
+#![tactic(auto)]
+
 ghost use Rattle.std.specs.Prelude.{◌≡◌, true, ◌+◌, ◌≤◌, length};
 ghost use Rattle.blob.specs.Reading.{answer, done};
 ghost use Rattle.blob.specs.Laid.{laid};

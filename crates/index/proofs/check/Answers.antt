@@ -3,7 +3,8 @@ use mathlib.Core.Path.{refl, ap, sym, ◌∙◌}
 use Rattle.blob.specs.Reading.{refused}
 use Rattle.number.specs.Scan.{ones}
 use Rattle.index.specs.Index.{ONE, ENTRY}
-use Rattle.index.specs.Read.{sound, counted_at, was_word, was_no_word, was_counted, was_not_counted, no-edition, other_edition, no-counts, no-entries}
+use Rattle.index.specs.Read.{sound, counted_at}
+use Rattle.index.proofs.ReadLaws.{was_word, was_no_word, was_counted, was_not_counted, no-edition, other_edition, no-counts, no-entries}
 use Rattle.index.proofs.check.Goals as goal
 
 pub returns-in-Refused : goal.returns-in-Refused

@@ -1,7 +1,8 @@
 -- The providers' counts, then the entries.
 use mathlib.Core.Path.{refl}
 use Rattle.number.specs.Scan.{ones}
-use Rattle.index.specs.Read.{sound, counts-stand, entries-stand, index-given}
+use Rattle.index.specs.Read.{sound}
+use Rattle.index.proofs.ReadLaws.{counts-stand, entries-stand, index-given}
 use Rattle.index.proofs.give.Goals as goal
 
 pub give_counted-place-requires : goal.give_counted-place-requires

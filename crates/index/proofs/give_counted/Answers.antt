@@ -1,7 +1,8 @@
 -- The count, then the rows behind it.
 use mathlib.Core.Path.{refl}
 use Rattle.number.specs.Scan.{ones}
-use Rattle.index.specs.Read.{sound, count-stands, rows-stand, counted-given}
+use Rattle.index.specs.Read.{sound}
+use Rattle.index.proofs.ReadLaws.{count-stands, rows-stand, counted-given}
 use Rattle.index.proofs.give_counted.Goals as goal
 
 pub give_rows-place-requires : goal.give_rows-place-requires

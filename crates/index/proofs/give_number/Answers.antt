@@ -2,9 +2,9 @@ use mathlib.Core.Path.{refl, ap}
 use native.Mathlib.Omega.{arith}
 use lib.ListN.{length, length-set}
 use Rattle.blob.specs.Laid.{laid}
-use Rattle.index.specs.Read.{words-some, words-two, words-one}
+use Rattle.index.proofs.ReadLaws.{words-some, words-two, words-one}
 use Rattle.index.proofs.give_number.Goals as goal
-use Rattle.index.specs.Read.{words-two, words-one}
+use Rattle.index.proofs.ReadLaws.{words-two, words-one}
 
 pub bounds-words-to : goal.bounds-words-to
 bounds-words-to c = omega (arith, c.requires.1, words-some c.args.width c.args.number)

@@ -3,7 +3,7 @@ use mathlib.Core.Path.{refl, ap, ap₂, ◌∙◌}
 use native.Mathlib.Omega.{arith}
 use lib.ListN.{length}
 use Rattle.blob.specs.Laid.{length-laid}
-use Rattle.index.specs.Read.{row_of_room, row-left_all, row-left_none, row-left_stands, row-left_narrow, row-left_room, row-left_more}
+use Rattle.index.proofs.ReadLaws.{row_of_room, row-left_all, row-left_none, row-left_stands, row-left_narrow, row-left_room, row-left_more}
 use Rattle.index.proofs.give_row.Goals as goal
 
 pub loop-i-init : goal.loop-i-init

@@ -3,7 +3,7 @@ use mathlib.Core.Path.{refl, ap, ap₂, ◌∙◌}
 use native.Mathlib.Omega.{arith}
 use lib.ListN.{length}
 use Rattle.blob.specs.Laid.{length-laid}
-use Rattle.index.specs.Read.{rows_of-room, rows-left_all, rows-left_none, rows-left_stand, rows-left_more}
+use Rattle.index.proofs.ReadLaws.{rows_of-room, rows-left_all, rows-left_none, rows-left_stand, rows-left_more}
 use Rattle.index.proofs.give_rows.Goals as goal
 
 pub loop-left-init : goal.loop-left-init

@@ -1,6 +1,7 @@
 use mathlib.Core.Path.{ap, sym, ◌∙◌}
 use Rattle.index.specs.Index.{Rows}
-use Rattle.index.specs.Read.{counted_read, was_word, was_no_word, was_passed, was_refused, counted_none, counted-stops, counted-goes}
+use Rattle.index.specs.Read.{counted_read}
+use Rattle.index.proofs.ReadLaws.{was_word, was_no_word, was_passed, was_refused, counted_none, counted-stops, counted-goes}
 use Rattle.index.proofs.pass_counted.Goals as goal
 
 pub returns-in-Refused : goal.returns-in-Refused

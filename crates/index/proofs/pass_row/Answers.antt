@@ -1,8 +1,9 @@
 -- What is left decides: the widths from here on.
 use mathlib.Core.Path.{refl, ap, sym, ◌∙◌}
 use native.Mathlib.Omega.{arith}
-use Rattle.number.specs.Scan.{passed_to, passed-not}
-use Rattle.index.specs.Read.{behind_row, sound-at, row-over, row-stops, row_goes}
+use Rattle.number.proofs.Scan.{passed_to, passed-not}
+use Rattle.index.specs.Read.{behind_row}
+use Rattle.index.proofs.ReadLaws.{sound-at, row-over, row-stops, row_goes}
 use Rattle.index.proofs.pass_row.Goals as goal
 
 pub loop-i-init : goal.loop-i-init

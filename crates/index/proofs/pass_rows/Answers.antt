@@ -1,7 +1,8 @@
 -- What is left decides.
 use mathlib.Core.Path.{refl, ap, sym, ◌∙◌}
 use Rattle.index.specs.Index.{Row}
-use Rattle.index.specs.Read.{behind_rows, was_passed, was_refused, rows-over, rows-stop, rows-go}
+use Rattle.index.specs.Read.{behind_rows}
+use Rattle.index.proofs.ReadLaws.{was_passed, was_refused, rows-over, rows-stop, rows-go}
 use Rattle.index.proofs.pass_rows.Goals as goal
 
 pub loop-left-init : goal.loop-left-init

@@ -1,6 +1,7 @@
 -- The test, the end, the room, the words.
 use mathlib.Core.Path.{subst}
-use Rattle.index.specs.Read.{Told, read_refused, read_over, read_short, read_given, stands}
+use Rattle.index.specs.Read.{Told}
+use Rattle.index.proofs.ReadLaws.{read_refused, read_over, read_short, read_given, stands}
 use Rattle.index.proofs.read.Goals as goal
 
 pub returns-in-Refused : goal.returns-in-Refused

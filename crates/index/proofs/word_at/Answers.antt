@@ -6,7 +6,8 @@ use Rattle.blob.specs.Reading.{done, verdict}
 use Rattle.blob.proofs.Laws.{same}
 use Rattle.blob.specs.declared.Verdict.TheVariants as verdicts
 use Rattle.number.specs.Number.{WORD, LONG, number_at}
-use Rattle.number.specs.Scan.{ones, passed, passed_to, passed-not, wider, read_fits}
+use Rattle.number.specs.Scan.{ones, passed}
+use Rattle.number.proofs.Scan.{passed_to, passed-not, wider, read_fits}
 use Rattle.number.specs.declared.Number.{Number}
 use Rattle.number.specs.declared.Passed.TheVariants as to
 use Rattle.index.proofs.word_at.Goals as goal

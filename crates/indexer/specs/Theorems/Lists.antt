@@ -20,8 +20,8 @@ use Rattle.format.specs.Owner.{member, firsts, ranges, owners_of, each_owned, fi
 use Rattle.format.proofs.Theorems.Known.{All, all_append}
 use Rattle.number.specs.Number.{BYTE, HALF, WORD, LONG}
 use Rattle.index.specs.Index.{ENTRY, index, written, entry_of, UNKNOWN2_COUNT, fit, fields_fit, index_of, together, writing}
-use Rattle.index.specs.Theorems.Rows.{Within}
-use Rattle.index.specs.Theorems.Back.{Writable, reads_back}
+use Rattle.index.proofs.Theorems.Rows.{Within}
+use Rattle.index.proofs.Theorems.Back.{Writable, reads_back}
 use Rattle.indexer.specs.Theorems.Inside.{Whole, list-whole}
 
 -- a word of some words, and of none

@@ -1,12 +1,7 @@
 -- What is left decides: the bytes from here on, with what the width leaves for them.
-use Prim.Native.Nat.{◌+◌, ◌≤◌}
-use mathlib.Core.Path.{◌≡◌, refl, ap, sym, ◌∙◌}
-use mathlib.Core.Bool.{true, false}
+use mathlib.Core.Path.{refl, sym, ◌∙◌}
 use native.Mathlib.Omega.{arith}
-use borrow.Author.Rules.{rules}
-use lib.ListN.{length, drop}
-use Rattle.number.specs.Number.{LONGEST, number_at}
-use Rattle.number.specs.Scan.{passed, scan, scans, scan-over, scan-out, scan-last, scan-more}
+use Rattle.number.proofs.Scan.{scans, scan-over, scan-out, scan-last, scan-more}
 use Rattle.number.proofs.pass.Goals as goal
 
 pub loop-left-init : goal.loop-left-init

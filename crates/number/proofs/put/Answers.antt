@@ -1,13 +1,12 @@
 -- What is stored so far, with the bytes that are left laid behind it, is the whole.
-use Prim.Native.Nat.{ℕ, ◌+◌, ◌≤◌}
+use Prim.Native.Nat.{ℕ, ◌+◌}
 use mathlib.Core.Path.{◌≡◌, refl, ap, sym, ◌∙◌}
-use mathlib.Core.List.{List, [], ◌∷◌}
+use mathlib.Core.List.{List, ◌∷◌}
 use native.Mathlib.Omega.{arith}
-use borrow.Author.Rules.{rules}
 use lib.ListN.{length, set, length-set}
 use Rattle.blob.specs.Laid.{laid}
 use Rattle.number.specs.Number.{form}
-use Rattle.number.specs.Forms.{Left, left-all, left-last, left-more}
+use Rattle.number.proofs.Forms.{left-all, left-last, left-more}
 use Rattle.number.proofs.put.Goals as goal
 
 -- a byte stored, and those behind it

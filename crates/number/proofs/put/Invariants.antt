@@ -1,13 +1,11 @@
 -- What is stored so far, with the bytes that are left laid behind it, is the whole.
-use Prim.Native.Nat.{ℕ, ◌+◌, ◌≤◌}
-use mathlib.Core.Path.{◌≡◌, refl, ap, sym, ◌∙◌}
-use mathlib.Core.List.{List, [], ◌∷◌}
-use native.Mathlib.Omega.{arith}
-use borrow.Author.Rules.{rules}
-use lib.ListN.{length, set, length-set}
+use Prim.Native.Nat.{ℕ, ◌+◌}
+use mathlib.Core.Path.{◌≡◌}
+use mathlib.Core.List.{List}
+use lib.ListN.{length}
 use Rattle.blob.specs.Laid.{laid}
 use Rattle.number.specs.Number.{form}
-use Rattle.number.specs.Forms.{Left, left-all, left-last, left-more}
+use Rattle.number.proofs.Forms.{Left}
 use Rattle.number.proofs.put.Given as goal
 
 abbrev pub invariant-loop-rest : goal.invariant-loop-rest

@@ -1,14 +1,9 @@
 -- The bytes before this one say `value`; those from it on, times `scale`, say what is missing of the number.
-use Prim.Native.Nat.{◌*◌, ◌-◌, ◌≤◌}
-use mathlib.Core.Path.{◌≡◌, refl, ap, ap₂, sym, ◌∙◌}
+use mathlib.Core.Path.{ap₂, sym, ◌∙◌}
 use native.Mathlib.Omega.{arith}
-use borrow.Author.Rules.{rules}
-use lib.ListN.{length, get_or, drop}
 use Rattle.blob.specs.Reading.{done}
 use Rattle.blob.proofs.Laws.{fine-value}
-use Rattle.number.specs.Number.{LONG, number_at}
-use Rattle.number.specs.Scan.{Rest, rest_all, byte_left, byte-ends, byte-goes, read_fits}
-use Rattle.number.specs.declared.Number.{Number}
+use Rattle.number.proofs.Scan.{rest_all, byte_left, byte-ends, byte-goes, read_fits}
 use Rattle.number.proofs.read.Goals as goal
 
 pub loop-at-init : goal.loop-at-init

@@ -1,13 +1,10 @@
 -- The bytes before this one say `value`; those from it on, times `scale`, say what is missing of the number.
-use Prim.Native.Nat.{◌*◌, ◌-◌, ◌≤◌}
-use mathlib.Core.Path.{◌≡◌, refl, ap, ap₂, sym, ◌∙◌}
-use native.Mathlib.Omega.{arith}
-use borrow.Author.Rules.{rules}
-use lib.ListN.{length, get_or, drop}
+use Prim.Native.Nat.{◌-◌, ◌≤◌}
+use mathlib.Core.Path.{◌≡◌}
+use lib.ListN.{length, drop}
 use Rattle.blob.specs.Reading.{done}
-use Rattle.blob.proofs.Laws.{fine-value}
 use Rattle.number.specs.Number.{LONG, number_at}
-use Rattle.number.specs.Scan.{Rest, rest_all, byte_left, byte-ends, byte-goes, read_fits}
+use Rattle.number.specs.Scan.{Rest}
 use Rattle.number.specs.declared.Number.{Number}
 use Rattle.number.proofs.read.Given as goal
 

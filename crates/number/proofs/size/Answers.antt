@@ -1,12 +1,9 @@
 -- What is left of the form, with what was counted before it, is the whole form.
-use Prim.Native.Nat.{ℕ, ◌+◌, ◌≤◌}
-use mathlib.Core.Path.{◌≡◌, refl, ap, sym, ◌∙◌}
-use mathlib.Core.List.{List}
+use mathlib.Core.Path.{ap}
 use native.Mathlib.Omega.{arith}
-use borrow.Author.Rules.{rules}
 use lib.ListN.{length}
 use Rattle.number.specs.Number.{form}
-use Rattle.number.specs.Forms.{Left, left-all, left-last, left-more, form-short}
+use Rattle.number.proofs.Forms.{left-all, left-last, left-more, form-short}
 use Rattle.number.proofs.size.Goals as goal
 
 pub loop-rest-init : goal.loop-rest-init

@@ -1,12 +1,10 @@
 -- What is left of the form, with what was counted before it, is the whole form.
-use Prim.Native.Nat.{ℕ, ◌+◌, ◌≤◌}
-use mathlib.Core.Path.{◌≡◌, refl, ap, sym, ◌∙◌}
+use Prim.Native.Nat.{ℕ, ◌+◌}
+use mathlib.Core.Path.{◌≡◌}
 use mathlib.Core.List.{List}
-use native.Mathlib.Omega.{arith}
-use borrow.Author.Rules.{rules}
 use lib.ListN.{length}
 use Rattle.number.specs.Number.{form}
-use Rattle.number.specs.Forms.{Left, left-all, left-last, left-more, form-short}
+use Rattle.number.proofs.Forms.{Left}
 use Rattle.number.proofs.size.Given as goal
 
 abbrev pub invariant-loop-rest : goal.invariant-loop-rest

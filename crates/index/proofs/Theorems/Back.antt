@@ -7,7 +7,7 @@ use Rattle.blob.specs.Places.{Each}
 use Rattle.format.proofs.Theorems.Known.{All}
 use Rattle.number.specs.Number.{WORD, form}
 use Rattle.index.specs.Index.{EDITION, ENTRY, Index, written, index}
-use Rattle.index.specs.Theorems.Rows.{Within, Lies, lies_all, lies_split, number-back, rows_back, singles-flat, words_back}
+use Rattle.index.proofs.Theorems.Rows.{Within, Lies, lies_all, lies_split, number-back, rows_back, singles-flat, words_back}
 
 -- an index whose numbers each have their width
 pub record Writable (i : Index) : Type 0 where

@@ -1,12 +1,13 @@
 -- What holds of the coder: each number below 2⁶⁴ has a form; what is written reads back, whatever follows; no two byte strings read as the
 -- same number.
-use Rattle.std.specs.Prelude.{ℕ, zero, suc, ◌+◌, ◌*◌, ◌/◌, ◌%◌, ◌≤◌, ◌<◌, ◌≡◌, refl, Bool, true, false, not, ◌&&◌, ◌||◌, List, [], ◌∷◌, ◌++◌, length, drop, leb, ltb, eqb}
-use Rattle.std.proofs.Common.{ap, ap₂, sym, ◌∙◌, subst, append-nil, arith, length-append, drop-drop, le-leb, ltb-true, ltb-false, le-ltb, lt-ltb, ne_eqb}
+use Rattle.std.specs.Prelude.{ℕ, zero, suc, ◌+◌, ◌*◌, ◌/◌, ◌%◌, ◌≤◌, ◌<◌, ◌≡◌, refl, Bool, true, false, ◌||◌, List, [], ◌∷◌, ◌++◌, length, drop, ltb, eqb}
+use Rattle.std.proofs.Common.{ap, ap₂, sym, ◌∙◌, append-nil, arith, drop-drop, ltb-true, ltb-false, le-ltb, lt-ltb, ne_eqb}
 use Rattle.std.proofs.Math.Seq.{drop-append_seam, drop-length}
-use Rattle.blob.specs.Reading.{Outcome, done, choose}
+use Rattle.blob.specs.Reading.{done, choose}
 use Rattle.blob.specs.Places.{Each}
 use Rattle.number.specs.Number.{LONGEST, LONG, form_of, form, upto, ended, value, last_or, padded, number_at}
-use Rattle.number.specs.Scan.{untrue, alone, lasting, slimmer, number_of, Read, was_read, is_read}
+use Rattle.number.specs.Scan.{number_of}
+use Rattle.number.proofs.Scan.{untrue, alone, lasting, slimmer, was_read, is_read}
 use Rattle.number.specs.declared.Number.{Number}
 
 -- whether a number, and so each below it, has a form of at most so many bytes

@@ -13,8 +13,9 @@ use Rattle.blob.specs.Laid.{flat, flat_append, flat-single, flat_map}
 use Rattle.blob.specs.Places.{Each}
 use Rattle.format.proofs.Theorems.Known.{All}
 use Rattle.number.specs.Number.{LONGEST, WORD, LONG, upto, form, number_at}
-use Rattle.number.specs.Scan.{number_of, was_read, is_read}
-use Rattle.number.specs.Forms.{has-form, says, stops, slim, was_written}
+use Rattle.number.specs.Scan.{number_of}
+use Rattle.number.proofs.Scan.{was_read, is_read}
+use Rattle.number.proofs.Forms.{has-form, says, stops, slim, was_written}
 use Rattle.number.specs.declared.Number.{Number}
 use Rattle.index.specs.Index.{ONE, Row, row_at, Rows, rows_at}
 

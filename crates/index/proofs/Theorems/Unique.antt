@@ -10,8 +10,8 @@ use Rattle.blob.specs.Places.{Each}
 use Rattle.format.proofs.Theorems.Known.{All}
 use Rattle.number.specs.Number.{WORD, LONG, number_at}
 use Rattle.index.specs.Index.{EDITION, ENTRY, ONE, Index, written, rows_at, index, number_words, row_words, words, with_room, reading}
-use Rattle.index.specs.Theorems.Rows.{Within, Lies, lies_then, number-found, rows-found, words-found}
-use Rattle.index.specs.Theorems.Back.{Writable, written-parts}
+use Rattle.index.proofs.Theorems.Rows.{Within, Lies, lies_then, number-found, rows-found, words-found}
+use Rattle.index.proofs.Theorems.Back.{Writable, written-parts}
 
 -- bytes up to their end are all of them
 all-lies : (bytes xs : List ℕ) (behind : ℕ) → Lies bytes 0 xs behind → behind ≡ length bytes → bytes ≡ xs

@@ -1,0 +1,4 @@
+-- What holds of what the code speaks of.
+pub mod ReadLaws
+-- What holds of the index.
+pub mod Theorems
