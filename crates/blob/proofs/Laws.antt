@@ -68,18 +68,6 @@ pub choose-done : {A : Type 0} (t : Bool) (o : Outcome A) (r : Refusal) (a : A) 
 choose-done true o r a e = (refl, e)
 choose-done false o r a e = absurd (never _ _ e)
 
--- no refusal has code 0
-pub run-coded : {A : Type 0} (r : Reading A) (s : List ℕ) (q : Refusal) → run r s ≡ refused q → 1 ≤ q.code
-unfolding run
-run-coded (got a) s q e = absurd (never q a (sym e))
-run-coded (stop r) s q e = let c : (r.told (length s)).code ≡ q.code = cc in omega (arith, r.coded (length s))
-run-coded (room e r k) s q h = go (leb e (length s)) (run-coded k s q) h
-  where
-    go : (b : Bool) → (run k s ≡ refused q → 1 ≤ q.code) → choose b (run k s) (refused (r.told (length s))) ≡ refused q → 1 ≤ q.code
-    go true ih h = ih h
-    go false ih h = let c : (r.told (length s)).code ≡ q.code = cc in omega (arith, r.coded (length s))
-run-coded (byte p k) s q h = run-coded (k (get_or s p 0)) s q h
-
 pub run_bind : {A B : Type 0} (p : Reading A) (f : A → Reading B) (s : List ℕ) → run (p >>= f) s ≡ then (run p s) (λ a. run (f a) s)
 unfolding run then ◌>>=◌
 run_bind (got a) f s = refl

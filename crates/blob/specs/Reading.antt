@@ -1,15 +1,15 @@
 -- The language in which the format is defined. A reading asks for room in a blob and for single bytes of it,
 -- and ends with a value or a refusal. It learns the blob's length only by asking for room, and in a refusal:
 -- that is why a longer blob is read the same (Longer).
-use Rattle.std.specs.Prelude.{ℕ, zero, suc, ◌+◌, ◌*◌, ◌≤◌, List, [], ◌∷◌, Bool, true, false, length, get_or, leb}
+use Rattle.std.specs.Prelude.{ℕ, zero, suc, ◌+◌, ◌*◌, List, [], ◌∷◌, Bool, true, false, length, get_or, leb}
 use Rattle.blob.specs.declared.Refusal.{Refusal}
 use Rattle.blob.specs.declared.Verdict.{Verdict}
 use Rattle.blob.specs.declared.Verdict.TheVariants as verdicts
 
--- what a refusal tells, which may name the blob's length. It has a code: 0 is for what is accepted
+-- what a refusal tells, which may name the blob's length. Its code is never 0, which is for what is accepted: `Coded` of blob's proofs
+-- says so of every fault of a reading
 pub record Fault : Type 0 where
   pub told : ℕ → Refusal
-  pub coded : (n : ℕ) → 1 ≤ (told n).code
 
 pub data Reading (A : Type 0) : Type 0 where
   -- the value

@@ -3,6 +3,7 @@ pub mod Cases
 pub mod Examples
 pub mod Words
 pub mod Order
+pub mod Coded
 pub mod Codes
 pub mod Determined
 pub mod Said

@@ -3,7 +3,7 @@
 use Rattle.std.specs.Prelude.{ℕ, ◌+◌, ◌-◌, ◌*◌, min, List, [], ◌∷◌, leb, eqb}
 use Rattle.blob.specs.Reading.{Fault, Reading, got, Outcome, room, choose, demand, ◌>>=◌, number, many, answer}
 use Rattle.format.specs.Field.{MAPS_offsets_array, MAPS_map_offset, MAPS_map_signature, VMAP_size_field, VMAP_header, VMAP_size, VMAP_entries_array, VMAP_map_string, table_size}
-use Rattle.format.specs.Refuse.{a_code, whole, within, size_out}
+use Rattle.format.specs.Refuse.{whole, within, size_out}
 use Rattle.format.specs.Region.{Region, blob_end, until, against, inside, region_at}
 use Rattle.format.specs.Name.{name_at, absent}
 use Rattle.format.specs.Table.{MAPS, header_length}
@@ -41,11 +41,7 @@ entry_at at = number 4 at >>= λ identifier. number 4 (at + 4) >>= λ message. g
 
 -- "its bytes are as many as its size, cut at the region end; under 16 of them is 1"
 abbrev pub few : ℕ → ℕ → Fault
-few at size =
-    record {
-      told = λ n. record { code = 1; field = VMAP_header; place = at; first = 16; second = min size (n - at) };
-      coded = λ n. a_code;
-    }
+few at size = record { told = λ n. record { code = 1; field = VMAP_header; place = at; first = 16; second = min size (n - at) } }
 
 -- "A VMAP needs 8 bytes (1); its bytes ..; a size past them is 3; entries past the size are 3; then the name. Data is what remains."
 unfoldable pub value_map_at : Region → ℕ → Reading Mapped

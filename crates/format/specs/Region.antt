@@ -18,7 +18,7 @@ end n (until e) = e
 
 -- what is told against the region's end, not the blob's
 abbrev pub against : Region → Fault → Fault
-against region r = record { told = λ n. r.told (end n region); coded = λ n. r.coded (end n region) }
+against region r = record { told = λ n. r.told (end n region) }
 
 -- go on where a place is not past the region's end, against which the refusal is told
 unfoldable pub inside : {A : Type 0} → Region → ℕ → Fault → Reading A → Reading A

@@ -4,7 +4,7 @@ use Rattle.std.specs.Prelude.{ℕ, ◌+◌, ◌-◌, not, ◌||◌, List, leb, l
 use Rattle.blob.specs.declared.Refusal.{Refusal}
 use Rattle.blob.specs.Reading.{Reading, got, stop, choose, demand, ◌>>=◌, number, many}
 use Rattle.format.specs.Field.{TEMP_header, TEMP_size, TEMP_item_name_count_expected_0, TEMP_template_items_offset, TEMP_template_items_offset_relative, table_size}
-use Rattle.format.specs.Refuse.{a_code, fine, truncated, wrong_signature, size_out, count_out, offset_out}
+use Rattle.format.specs.Refuse.{fine, truncated, wrong_signature, size_out, count_out, offset_out}
 use Rattle.format.specs.Region.{Region, inside, region_at}
 use Rattle.format.specs.Table.{TTBL, header_length}
 use Rattle.format.specs.Definition.{guid_at}
@@ -58,8 +58,8 @@ items_says size n (items.Past t) = (offset_out TEMP_template_items_offset_relati
 
 unfoldable pub items_at : ℕ → Items → Reading TemplatePlace
 items_at size (items.At t) = got t
-items_at size (items.Before b) = stop (record { told = λ n. items_says size n (items.Before b); coded = λ n. a_code })
-items_at size (items.Past t) = stop (record { told = λ n. items_says size n (items.Past t); coded = λ n. a_code })
+items_at size (items.Before b) = stop (record { told = λ n. items_says size n (items.Before b) })
+items_at size (items.Past t) = stop (record { told = λ n. items_says size n (items.Past t) })
 
 -- the fields of a TEMP whose size is right. "BinXML runs from TEMP byte 40 to the items; items below 40 give length 0, start still
 -- TEMP + 40." The items come last: "all after its BinXML bounds" (request 01)

@@ -1,15 +1,16 @@
--- No refusal has code 0: an answer whose code is 0 is an accepted block's. Codes 1 to 6 are those of readings, of which it holds by how
--- they are made; 7 to 9 are looked at here.
+-- No refusal has code 0: an answer whose code is 0 is an accepted block's. Codes 1 to 6 are those of readings (Coded); 7 to 9 are looked at
+-- here.
 use Rattle.std.specs.Prelude.{ℕ, ◌≤◌, ◌≡◌, refl, Bool, true, false, List, [], ◌∷◌, length, leb}
 use Rattle.std.proofs.Common.{sym, arith}
 use Rattle.blob.specs.declared.Refusal.{Refusal}
 use Rattle.blob.specs.Reading.{Outcome, done, refused, choose, then}
-use Rattle.blob.proofs.Laws.{never, run-coded}
-use Rattle.format.specs.Refuse.{a_code}
+use Rattle.blob.proofs.Laws.{never}
+use Rattle.blob.proofs.Coded.{run-coded}
 use Rattle.format.specs.Crim.{header, providers_of, crim}
 use Rattle.format.specs.Area.{Row, rows}
 use Rattle.format.specs.Lists.{Entry}
 use Rattle.format.specs.Answer.{lent_enough, with_room, reading}
+use Rattle.format.proofs.Theorems.Coded.{a_code, header-coded, providers_of-coded}
 
 -- what an outcome is refused for has a code
 abbrev pub Told : {A : Type 0} → Outcome A → Type 0
@@ -41,5 +42,5 @@ pub refused-code : (bytes words : List ℕ) (capacities : List ℕ) → Told (re
 unfolding reading crim
 refused-code bytes words capacities =
     told-choose (leb (length bytes) 16777216) (told-choose (lent_enough capacities words)
-    (told-then _ _ (told-then _ _ (run-coded header bytes) (λ h. told-then _ _ (run-coded (providers_of h) _) (λ ps. told-done _))) (λ c. told-room rows _ _ c))
+    (told-then _ _ (told-then _ _ (run-coded header header-coded bytes) (λ h. told-then _ _ (run-coded (providers_of h) (providers_of-coded h) _) (λ ps. told-done _))) (λ c. told-room rows _ _ c))
     (told-refused _ a_code)) (told-refused _ a_code)
