@@ -1,4 +1,6 @@
 // The second pass over a block whose providers are fine: each list stored in its area, list after list, by a walk over the providers.
+#![tactic(auto)]
+
 ghost use Rattle.std.specs.Prelude.{◌≡◌, true, [], ◌+◌, ◌*◌, ◌-◌, ◌≤◌, length};
 ghost use Rattle.blob.specs.Reading.{run, verdict};
 ghost use Rattle.blob.specs.Laid.{laid};

@@ -6,8 +6,8 @@ use Rattle.blob.specs.declared.Refusal.{Refusal}
 use Rattle.blob.specs.declared.Verdict.{Verdict}
 use Rattle.blob.specs.declared.Verdict.TheVariants as verdicts
 
--- what a refusal tells, which may name the blob's length. Its code is never 0, which is for what is accepted: `Coded` of blob's proofs
--- says so of every fault of a reading
+-- what a refusal tells, which may name the blob's length. That its code is not 0, which is for what is accepted, is proved of each
+-- reading of the definition (Coded)
 pub record Fault : Type 0 where
   pub told : ℕ → Refusal
 

@@ -1,10 +1,10 @@
 -- What lists that need so much get of so much: 9 for the first that is too small; and the sums over the rows, row by row.
 use Prim.{tt}
-use Rattle.std.specs.Prelude.{ℕ, zero, suc, ◌+◌, ◌*◌, ◌≤◌, ◌<◌, min, ◌≡◌, refl, Bool, true, false, ◌&&◌, List, [], ◌∷◌, map, leb, ltb, eqb, length, get_or, drop, take, set}
+use Rattle.std.specs.Prelude.{ℕ, zero, suc, ◌+◌, ◌*◌, ◌≤◌, ◌<◌, ◌≡◌, refl, true, false, ◌&&◌, List, [], ◌∷◌, map, leb, ltb, eqb, length, get_or, drop, take, set}
 use Rattle.std.proofs.Common.{mul-le-mul, suc-add, add_assoc, add-zero, arith, ap, sym, ◌∙◌, drop_of_length-le, le-leb, leb-true, ltb-true, eqb-true, ne_eqb}
 use Rattle.std.proofs.lemmas.Bool.{lt-leb}
 use Rattle.blob.specs.Places.{Each}
-use Rattle.blob.proofs.Laws.{both, passes}
+use Rattle.blob.proofs.Laws.{passes}
 use Rattle.blob.specs.Reading.{choose}
 use Rattle.blob.specs.declared.Verdict.{Verdict}
 use Rattle.blob.specs.declared.Verdict.TheVariants as verdicts

@@ -1,5 +1,7 @@
 // Numbers of entries, one for each list that has an area, in the order of the rows: what the lists need, added up and held against what
 // the caller lends.
+#![tactic(auto)]
+
 ghost use Rattle.std.specs.Prelude.{◌≡◌, ◌&&◌, ◌*◌, ◌≤◌, ◌<◌, leb, take, get_or};
 ghost use Rattle.format.specs.Area as area;
 ghost use Rattle.format.specs.Answer as answer;

@@ -1,4 +1,6 @@
 // The header of the CRIM block, read over the lent bytes.
+#![tactic(auto)]
+
 ghost use Rattle.std.specs.Prelude.{◌≡◌};
 ghost use Rattle.blob.specs.Reading.{run};
 ghost use Rattle.format.specs.Crim as spec;

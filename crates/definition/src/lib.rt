@@ -1,4 +1,6 @@
 // The tables of definitions: a record by its kind, then its name; their check and their words.
+#![tactic(auto)]
+
 ghost use Rattle.std.specs.Prelude.{◌≡◌, ◌+◌, ◌*◌, ◌≤◌, length};
 ghost use Rattle.blob.specs.Reading.{run, done, verdict, values};
 ghost use Rattle.blob.specs.Laid.{laid, flat};

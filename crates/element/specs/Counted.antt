@@ -14,7 +14,7 @@ use Rattle.blob.specs.declared.Verdict.TheVariants as verdicts
 use Rattle.blob.specs.Reading.{Outcome, done, refused, choose, run, many, answer, verdict, values}
 use Rattle.format.specs.Table.{MAPS, TTBL, kinds, kind_of}
 use Rattle.format.specs.Definition.{step}
-use Rattle.format.specs.Provider.{Rows, definitions, events, maps, templates, Table, Element, unknown, descriptor_at, unknown_at, element_of, element_at, elements_from}
+use Rattle.format.specs.Provider.{Rows, definitions, events, maps, templates, Table, Element, descriptor_at, unknown_at, element_of, element_at, elements_from}
 use Rattle.format.specs.Lists.{last_of, list_of, kept, unknowns, definitions_in, events_in, maps_in, templates_in}
 use Rattle.format.specs.Answer.{capped}
 use Rattle.format.specs.Area as area

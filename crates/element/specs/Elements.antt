@@ -10,7 +10,7 @@ use Rattle.blob.specs.Reading.{Outcome, done, refused, choose, run, many, each, 
 use Rattle.blob.proofs.Laws.{fine-value, run_bind, run-after, not_fine, fine-done, then-done, told_more, many-empty, many-stop, values-more, each-told, each-stop}
 use Rattle.blob.proofs.Finds.{Finds, finds-got, finds-room, finds-next}
 use Rattle.format.specs.Definition.{step}
-use Rattle.format.specs.Provider.{Table, Element, table, unknown, descriptor_at, element_at, elements_from}
+use Rattle.format.specs.Provider.{Table, Element, table, descriptor_at, element_at, elements_from}
 use Rattle.format.specs.Lists.{last_of, or_else}
 use Rattle.format.specs.declared.Descriptor.{Descriptor}
 

@@ -1,4 +1,6 @@
 // A provider's elements: each checked by its kind, where the last table of a kind stands, and what the kept tables need.
+#![tactic(auto)]
+
 ghost use Rattle.std.specs.Prelude.{◌≡◌, ◌+◌, ◌*◌, ◌≤◌, min, length};
 ghost use Rattle.blob.specs.Reading.{run, done, verdict, values, many};
 ghost use Rattle.format.specs.Definition.{step};

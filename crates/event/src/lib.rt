@@ -1,4 +1,6 @@
 // The table of events: a record is read as it stands, so that none is refused; the words of records in a row.
+#![tactic(auto)]
+
 ghost use Rattle.std.specs.Prelude.{◌≡◌, ◌+◌, ◌*◌, ◌≤◌, length};
 ghost use Rattle.blob.specs.Reading.{run, done, many, values};
 ghost use Rattle.blob.specs.Laid.{laid, flat};

@@ -1,5 +1,7 @@
 // The fillers: what lists 2 to 10 and 12 have of a provider's descriptors, of its unknown2 words, of the tables that are kept, by kind, and
 // of the elements of no known kind.
+#![tactic(auto)]
+
 ghost use Rattle.std.specs.Prelude.{◌≡◌, true, ◌+◌, ◌*◌, ◌≤◌, eqb, length};
 ghost use Rattle.blob.specs.Reading.{run, number, many, verdict, values, choose};
 ghost use Rattle.blob.specs.Laid.{laid, flat};

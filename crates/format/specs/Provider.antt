@@ -1,6 +1,6 @@
 -- WEVT: its descriptors, unknown2 words and elements. "(20 bytes; a place past the blob 5, cut short 1): signature, size, message,
 -- descriptor count, unknown2 count." (layouts)
-use Rattle.std.specs.Prelude.{ℕ, ◌+◌, ◌*◌, ◌-◌, min, List, length, eqb}
+use Rattle.std.specs.Prelude.{ℕ, ◌+◌, ◌*◌, ◌-◌, min, List, eqb}
 use Rattle.blob.specs.Reading.{Reading, got, Outcome, room, choose, demand, ◌>>=◌, number, many, each, answer}
 use Rattle.format.specs.Field.{WEVT_provider_offset, WEVT_header, WEVT_descriptor_array, WEVT_element_offset, WEVT_element_signature, WEVT_unknown2_array, provider_element_offset, unknown_element_header, unknown_element_end}
 use Rattle.format.specs.Refuse.{whole, within, wrong_signature, offset_out}

@@ -1,4 +1,6 @@
 // The types that the definition of the format speaks of, and that the code reads into. What is right stands in specs/.
+#![tactic(auto)]
+
 use blob::{Refusal, Verdict};
 use list::AREAS;
 

@@ -6,5 +6,3 @@ pub mod Left
 pub mod Resolved
 pub mod Whole
 pub mod Tested
--- What holds of what it writes.
-pub mod Theorems

@@ -1,4 +1,6 @@
 // A TEMP's items: the check of all of them with their names, and the filler of list 12.
+#![tactic(auto)]
+
 ghost use Rattle.std.specs.Prelude.{◌≡◌, ◌+◌, ◌*◌, ◌≤◌, length};
 ghost use Rattle.blob.specs.Reading.{run, done, many, verdict, values};
 ghost use Rattle.blob.specs.Laid.{laid, flat};

@@ -1,19 +1,18 @@
 -- A reading, way by way, as `read` goes.
-use Rattle.std.specs.Prelude.{ℕ, suc, ◌+◌, ◌*◌, ◌-◌, ◌≤◌, ◌<◌, ◌≡◌, Bool, true, false, ◌&&◌, List, [], ◌∷◌, map, length, take, leb}
+use Rattle.std.specs.Prelude.{ℕ, ◌+◌, ◌*◌, ◌≤◌, ◌<◌, ◌≡◌, Bool, true, false, List, [], ◌∷◌, map, length, take, leb}
 use Rattle.std.proofs.Math.Path.{refl}
 use Rattle.std.proofs.Common.{◌∙◌, arith, le-leb, leb-true, leb-false}
 use Rattle.std.proofs.lemmas.Bool.{lt-leb}
 use Rattle.blob.specs.declared.Refusal.{Refusal}
 use Rattle.blob.specs.declared.Verdict.{Verdict}
 use Rattle.blob.specs.declared.Verdict.TheVariants as verdicts
-use Rattle.blob.specs.Reading.{Reading, Outcome, done, refused, choose, run, many, then, values}
+use Rattle.blob.specs.Reading.{Outcome, done, refused, choose, run, then}
 use Rattle.blob.proofs.Laws.{both, choose-done, run_room, run_past}
 use Rattle.blob.proofs.Finds.{Finds, finds-got, finds-room, finds-demand, finds-next}
 use Rattle.format.specs.Field.{CRIM_provider_descriptor_array}
 use Rattle.format.specs.Refuse.{truncated}
-use Rattle.format.specs.Definition.{step}
 use Rattle.format.specs.Provider.{Provider}
-use Rattle.format.specs.Crim.{Crim, header, crim_read, described_at, providers_of, crim}
+use Rattle.format.specs.Crim.{Crim, header, crim_read, providers_of, crim}
 use Rattle.format.specs.Area.{Row, rows}
 use Rattle.format.specs.Lists.{Entry, lists}
 use Rattle.areas.specs.Areas.{providers}

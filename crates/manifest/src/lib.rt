@@ -1,4 +1,6 @@
 // The whole block: the CRIM walk over providers, what the lists need, and `read`.
+#![tactic(auto)]
+
 ghost use Rattle.std.specs.Prelude.{◌≡◌, true, ◌+◌, ◌*◌, ◌≤◌, length};
 ghost use Rattle.blob.specs.Reading.{run, refused, verdict};
 ghost use Rattle.format.specs.Answer as spec;

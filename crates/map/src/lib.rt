@@ -1,4 +1,6 @@
 // MAPS: the reader of a map, the check of a MAPS with its count of entries, and the fillers of lists 7 and 8.
+#![tactic(auto)]
+
 ghost use Rattle.std.specs.Prelude.{◌≡◌, ◌+◌, ◌-◌, ◌*◌, ◌≤◌, min, eqb, length};
 ghost use Rattle.blob.specs.Laid.{laid, flat};
 ghost use Rattle.blob.specs.Reading.{run, verdict, values, choose};

@@ -1,4 +1,6 @@
 // A provider's WEVT: its header, its descriptors, its unknown2 words and its elements, checked and counted.
+#![tactic(auto)]
+
 ghost use Rattle.std.specs.Prelude.{◌≡◌, ◌+◌, ◌*◌, ◌≤◌, length};
 ghost use Rattle.blob.specs.Reading.{run, many, verdict};
 ghost use Rattle.format.specs.Definition.{step};

@@ -1,4 +1,6 @@
 // Table headers, and where a table of records ends.
+#![tactic(auto)]
+
 ghost use Rattle.std.specs.Prelude.{◌≡◌, ◌+◌, ◌*◌, ◌≤◌, length};
 ghost use Rattle.blob.specs.Reading.{run};
 ghost use Rattle.format.specs.Table as spec;

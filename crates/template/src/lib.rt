@@ -1,4 +1,6 @@
 // TTBL's templates: the check of a table's TEMPs with their items, and the fillers of lists 9 and 12.
+#![tactic(auto)]
+
 ghost use Rattle.std.specs.Prelude.{◌≡◌, ◌+◌, ◌*◌, ◌≤◌, length, List};
 ghost use Rattle.blob.specs.Le.{le};
 ghost use Rattle.blob.specs.Reading.{run, many, verdict, values};

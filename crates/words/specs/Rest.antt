@@ -1,6 +1,6 @@
 -- What is left of an entry to be stored: its next word, and nothing.
-use Rattle.std.specs.Prelude.{ℕ, suc, ◌+◌, ◌≤◌, ◌<◌, ◌≡◌, refl, List, [], ◌∷◌, length, get_or, drop, set}
-use Rattle.std.proofs.Common.{ap, sym, ◌∙◌, drop_of_length-le, drop-cons}
+use Rattle.std.specs.Prelude.{ℕ, ◌+◌, ◌≤◌, ◌<◌, ◌≡◌, List, length, get_or, drop, set}
+use Rattle.std.proofs.Common.{drop_of_length-le, drop-cons}
 use native.Mathlib.Omega.{arith}
 use Rattle.std.proofs.Math.Numerals.{add-one}
 use Rattle.blob.specs.Laid.{laid}

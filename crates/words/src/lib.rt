@@ -1,4 +1,6 @@
 // Words that several structures share: a GUID's, read; and those of an entry, stored.
+#![tactic(auto)]
+
 ghost use Rattle.std.specs.Prelude.{◌≡◌, ◌+◌, ◌≤◌, length};
 ghost use Rattle.blob.specs.Reading.{run, done};
 ghost use Rattle.blob.specs.Laid.{laid};

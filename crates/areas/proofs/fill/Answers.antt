@@ -1,17 +1,10 @@
 -- The invariant: what is left decides. What the list has of the providers that are left, laid from here, makes the area what it shall be.
-use Prim.Native.Nat.{◌+◌, ◌*◌, ◌≤◌}
-use mathlib.Core.Path.{◌≡◌, refl, ap}
+use mathlib.Core.Path.{refl, ap}
 use native.Mathlib.Omega.{arith}
 use borrow.Author.Rules.{rules}
-use lib.ListN.{length}
-use Rattle.blob.specs.declared.Verdict.TheVariants as verdicts
-use Rattle.blob.specs.Reading.{run, many, verdict, values}
-use Rattle.format.specs.Area.{none}
-use Rattle.format.specs.Definition.{step}
-use Rattle.format.specs.Crim.{described_at}
+use Rattle.blob.specs.Reading.{verdict}
 use Rattle.format.specs.steps.Parts.{parts, passed_all}
-use Rattle.format.proofs.Theorems.Stored.{Left, left-none}
-use Rattle.areas.specs.Areas.{providers_in}
+use Rattle.format.proofs.Theorems.Stored.{left-none}
 use Rattle.areas.specs.Walked.{next-provider, next-fine, provider-room, provider-left, none_left}
 use Rattle.areas.proofs.fill.Goals as goal
 

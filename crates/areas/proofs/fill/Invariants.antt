@@ -1,8 +1,6 @@
 -- The invariant: what is left decides. What the list has of the providers that are left, laid from here, makes the area what it shall be.
 use Prim.Native.Nat.{◌+◌, ◌*◌, ◌≤◌}
-use mathlib.Core.Path.{◌≡◌, refl, ap}
-use native.Mathlib.Omega.{arith}
-use borrow.Author.Rules.{rules}
+use mathlib.Core.Path.{◌≡◌}
 use lib.ListN.{length}
 use Rattle.blob.specs.declared.Verdict.TheVariants as verdicts
 use Rattle.blob.specs.Reading.{run, many, verdict, values}
@@ -10,9 +8,8 @@ use Rattle.format.specs.Area.{none}
 use Rattle.format.specs.Definition.{step}
 use Rattle.format.specs.Crim.{described_at}
 use Rattle.format.specs.steps.Parts.{parts, passed_all}
-use Rattle.format.proofs.Theorems.Stored.{Left, left-none}
+use Rattle.format.proofs.Theorems.Stored.{Left}
 use Rattle.areas.specs.Areas.{providers_in}
-use Rattle.areas.specs.Walked.{next-provider, next-fine, provider-room, provider-left, none_left}
 use Rattle.areas.proofs.fill.Given as goal
 
 abbrev pub invariant-loop-p : goal.invariant-loop-p

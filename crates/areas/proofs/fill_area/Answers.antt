@@ -3,7 +3,6 @@ use mathlib.Core.Path.{refl, ap, sym}
 use native.Mathlib.Omega.{arith}
 use lib.ListN.{length-take, length-drop}
 use Rattle.blob.specs.Laid.{laid, laid-area}
-use borrow.Author.Rules.{rules}
 use Rattle.areas.proofs.fill_area.Goals as goal
 
 pub returns-then-need-eq0 : goal.returns-then-need-eq0

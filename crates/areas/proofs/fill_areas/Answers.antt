@@ -1,12 +1,8 @@
 -- The invariant: what is left decides. The lists from a row on, laid from here, make the words what they shall be.
-use Prim.Native.Nat.{◌+◌, ◌-◌, ◌≤◌}
-use mathlib.Core.Path.{◌≡◌, refl, sym, ◌∙◌}
+use mathlib.Core.Path.{refl, sym, ◌∙◌}
 use native.Mathlib.Omega.{arith}
 use borrow.Author.Rules.{rules}
-use lib.ListN.{length, drop}
-use Rattle.format.specs.Area.{rows, AREAS}
-use Rattle.format.specs.Lists.{lists}
-use Rattle.format.specs.Answer.{areas, filled}
+use Rattle.format.specs.Area.{rows}
 use Rattle.counts.specs.Short.{areas-step}
 use Rattle.areas.specs.Areas.{providers_in, lent_both, area_fits, no_words, fill_step, fill_end}
 use Rattle.areas.proofs.fill_areas.Goals as goal

@@ -1,14 +1,11 @@
 -- The invariant: what is left decides. The lists from a row on, laid from here, make the words what they shall be.
 use Prim.Native.Nat.{◌+◌, ◌-◌, ◌≤◌}
-use mathlib.Core.Path.{◌≡◌, refl, sym, ◌∙◌}
-use native.Mathlib.Omega.{arith}
-use borrow.Author.Rules.{rules}
+use mathlib.Core.Path.{◌≡◌}
 use lib.ListN.{length, drop}
 use Rattle.format.specs.Area.{rows, AREAS}
 use Rattle.format.specs.Lists.{lists}
 use Rattle.format.specs.Answer.{areas, filled}
-use Rattle.counts.specs.Short.{areas-step}
-use Rattle.areas.specs.Areas.{providers_in, lent_both, area_fits, no_words, fill_step, fill_end}
+use Rattle.areas.specs.Areas.{providers_in}
 use Rattle.areas.proofs.fill_areas.Given as goal
 
 abbrev pub invariant-loop-i : goal.invariant-loop-i

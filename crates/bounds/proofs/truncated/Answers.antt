@@ -1,5 +1,4 @@
 -- The refusal holds what `have` counts.
-use borrow.Author.Rules.{rules}
 use Rattle.bounds.proofs.truncated.Goals as goal
 
 pub returns : goal.returns

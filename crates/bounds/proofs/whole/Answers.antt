@@ -1,5 +1,4 @@
 -- What `has_room` answers is the test by which the definition asks for room.
-use borrow.Author.Rules.{rules}
 use mathlib.Core.Path.{sym, ◌∙◌}
 use Rattle.blob.specs.Reading.{run}
 use Rattle.bounds.proofs.whole.Goals as goal

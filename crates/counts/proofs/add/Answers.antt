@@ -1,13 +1,8 @@
 -- What is left of the rows decides.
-use Prim.Native.Nat.{◌-◌, ◌≤◌}
-use mathlib.Core.Path.{◌≡◌, refl, sym, ◌∙◌}
-use lib.ListN.{length, length-set}
-use Rattle.format.specs.Area.{AREAS}
-use Rattle.format.specs.steps.Needs.{plus, modest}
+use mathlib.Core.Path.{refl, sym, ◌∙◌}
+use lib.ListN.{length-set}
 use Rattle.counts.specs.Short.{plus_from, plus_step, plus-end, modest-set, modest-at}
-use borrow.Author.Rules.{rules}
 use native.Mathlib.Omega.{arith}
-use Rattle.bounds.proofs.sum.Reads as sum-reads
 use Rattle.counts.proofs.add.Goals as goal
 
 pub loop-i-init : goal.loop-i-init

@@ -1,13 +1,10 @@
 -- What is left of the rows decides.
 use Prim.Native.Nat.{◌-◌, ◌≤◌}
-use mathlib.Core.Path.{◌≡◌, refl, sym, ◌∙◌}
-use lib.ListN.{length, length-set}
+use mathlib.Core.Path.{◌≡◌}
+use lib.ListN.{length}
 use Rattle.format.specs.Area.{AREAS}
 use Rattle.format.specs.steps.Needs.{plus, modest}
-use Rattle.counts.specs.Short.{plus_from, plus_step, plus-end, modest-set, modest-at}
-use borrow.Author.Rules.{rules}
-use native.Mathlib.Omega.{arith}
-use Rattle.bounds.proofs.sum.Reads as sum-reads
+use Rattle.counts.specs.Short.{plus_from}
 use Rattle.counts.proofs.add.Given as goal
 
 abbrev pub invariant-loop-i : goal.invariant-loop-i

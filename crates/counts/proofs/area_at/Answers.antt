@@ -1,13 +1,10 @@
 -- Row by row.
-use Prim.Native.Nat.{◌-◌, ◌*◌, ◌≤◌}
 use mathlib.Core.Path.{◌≡◌, refl, ap, ◌∙◌}
-use lib.ListN.{length, take}
-use Rattle.format.specs.Area.{rows, AREAS, WIDEST}
+use lib.ListN.{take}
+use Rattle.format.specs.Area.{rows}
 use Rattle.format.specs.Answer.{areas}
 use Rattle.counts.specs.Short.{areas-next}
-use borrow.Author.Rules.{rules}
 use native.Mathlib.Omega.{arith}
-use Rattle.counts.proofs.words_of.Reads as words-of-reads
 use Rattle.counts.proofs.area_at.Goals as goal
 
 pub loop-i-init : goal.loop-i-init

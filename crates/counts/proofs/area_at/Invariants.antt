@@ -1,13 +1,9 @@
 -- Row by row.
 use Prim.Native.Nat.{◌-◌, ◌*◌, ◌≤◌}
-use mathlib.Core.Path.{◌≡◌, refl, ap, ◌∙◌}
+use mathlib.Core.Path.{◌≡◌}
 use lib.ListN.{length, take}
 use Rattle.format.specs.Area.{rows, AREAS, WIDEST}
 use Rattle.format.specs.Answer.{areas}
-use Rattle.counts.specs.Short.{areas-next}
-use borrow.Author.Rules.{rules}
-use native.Mathlib.Omega.{arith}
-use Rattle.counts.proofs.words_of.Reads as words-of-reads
 use Rattle.counts.proofs.area_at.Given as goal
 
 abbrev pub invariant-loop-i : goal.invariant-loop-i

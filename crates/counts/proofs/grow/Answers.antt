@@ -1,8 +1,5 @@
 -- At the row of the kind's list.
-use borrow.Author.Rules.{rules}
 use Rattle.counts.specs.Short.{modest-at}
-use Rattle.bounds.proofs.sum.Reads as sum-reads
-use Rattle.counts.proofs.row_of.Reads as row-of-reads
 use Rattle.counts.proofs.grow.Goals as goal
 
 pub sum-requires : goal.sum-requires

@@ -1,16 +1,11 @@
 -- What is left of the rows decides.
 use Prim.Native.Nat.{◌+◌, ◌-◌, ◌*◌, ◌≤◌}
-use mathlib.Core.Path.{◌≡◌, refl, sym, ◌∙◌}
+use mathlib.Core.Path.{◌≡◌}
 use mathlib.Core.Bool.{◌&&◌}
 use lib.Dec.{leb}
 use lib.ListN.{length, drop}
 use Rattle.format.specs.Area.{rows, AREAS, WIDEST}
 use Rattle.format.specs.Answer.{moderate, areas}
-use native.Mathlib.Nat.{zero-add}
-use Rattle.counts.specs.Short.{lent-more, lent-stop, lent-end}
-use borrow.Author.Rules.{rules}
-use native.Mathlib.Omega.{arith}
-use Rattle.counts.proofs.words_of.Reads as words-of-reads
 use Rattle.counts.proofs.lent_enough.Given as goal
 
 abbrev pub invariant-loop-i : goal.invariant-loop-i

@@ -1,12 +1,7 @@
 -- What is left of the rows decides.
-use Prim.Native.Nat.{◌-◌, ◌≤◌}
-use mathlib.Core.Path.{◌≡◌, refl, sym, ◌∙◌}
-use lib.ListN.{length, drop}
-use Rattle.format.specs.Area.{rows, AREAS}
-use Rattle.counts.specs.Short.{short, room-more, room-stop, room-end}
-use borrow.Author.Rules.{rules}
+use mathlib.Core.Path.{sym, ◌∙◌}
+use Rattle.counts.specs.Short.{room-more, room-stop, room-end}
 use native.Mathlib.Omega.{arith}
-use Rattle.counts.proofs.number_of.Reads as number-of-reads
 use Rattle.counts.proofs.room.Goals as goal
 
 pub returns-then-c-i : goal.returns-then-c-i

@@ -1,12 +1,9 @@
 -- What is left of the rows decides.
 use Prim.Native.Nat.{◌-◌, ◌≤◌}
-use mathlib.Core.Path.{◌≡◌, refl, sym, ◌∙◌}
+use mathlib.Core.Path.{◌≡◌}
 use lib.ListN.{length, drop}
 use Rattle.format.specs.Area.{rows, AREAS}
-use Rattle.counts.specs.Short.{short, room-more, room-stop, room-end}
-use borrow.Author.Rules.{rules}
-use native.Mathlib.Omega.{arith}
-use Rattle.counts.proofs.number_of.Reads as number-of-reads
+use Rattle.counts.specs.Short.{short}
 use Rattle.counts.proofs.room.Given as goal
 
 abbrev pub invariant-loop-i : goal.invariant-loop-i

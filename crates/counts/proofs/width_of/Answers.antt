@@ -1,7 +1,6 @@
 -- By the table.
 use mathlib.Core.Path.{refl}
 use Rattle.counts.specs.Short.{width-most}
-use borrow.Author.Rules.{rules}
 use Rattle.counts.proofs.width_of.Goals as goal
 
 pub returns : goal.returns

@@ -2,10 +2,7 @@
 use Prim.Native.Nat.{◌*◌}
 use mathlib.Core.Path.{ap}
 use Rattle.counts.specs.Short.{words-most}
-use borrow.Author.Rules.{rules}
 use native.Mathlib.Omega.{arith}
-use borrow.Author.Rules.{rules}
-use Rattle.counts.proofs.width_of.Reads as width-of-reads
 use Rattle.counts.proofs.words_of.Goals as goal
 
 pub overflow_mul-result : goal.overflow_mul-result

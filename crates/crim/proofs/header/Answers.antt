@@ -1,12 +1,9 @@
 -- Way by way. The equations are named: `cc` would read all that is known at a place for each.
-use mathlib.Core.Path.{◌≡◌, sym, ◌∙◌}
+use mathlib.Core.Path.{sym, ◌∙◌}
 use native.Mathlib.Omega.{arith}
-use Rattle.blob.specs.Le.{le}
 use Rattle.blob.proofs.Laws.{answer-found, answer-refused}
 use Rattle.format.specs.declared.CrimRead.TheVariants as read
-use Rattle.format.specs.Crim.{CRIM}
 use Rattle.crim.specs.Header.{no-signature, other_signature, no_size, no-major, no-minor, no-count, size-under, size-past, header-found}
-use borrow.Author.Rules.{rules}
 use Rattle.crim.proofs.header.Goals as goal
 
 pub returns-then-b-lt4 : goal.returns-then-b-lt4

@@ -1,4 +1,3 @@
-use borrow.Author.Rules.{rules}
 use Rattle.blob.specs.Reading.{run}
 use Rattle.blob.proofs.Laws.{run-number}
 use Rattle.format.specs.Definition.{channel_fields}

@@ -1,14 +1,10 @@
 -- The invariant: what is left decides. The verdict of the records that are left is that of all.
 use Prim.Native.Nat.{◌+◌, ◌*◌, ◌≤◌}
-use mathlib.Core.Path.{◌≡◌, sym, ◌∙◌}
-use native.Mathlib.Omega.{arith}
-use borrow.Author.Rules.{rules}
+use mathlib.Core.Path.{◌≡◌}
 use lib.ListN.{length}
 use Rattle.blob.specs.Reading.{run, verdict}
-use Rattle.blob.proofs.Laws.{many_more, many-stop, many-none}
 use Rattle.format.specs.Table.{stride}
-use Rattle.format.specs.Definition.{definition_at, step}
-use Rattle.definition.specs.Records.{rows, one_less, record_refused, record_found}
+use Rattle.definition.specs.Records.{rows}
 use Rattle.definition.proofs.check_records.Given as goal
 
 abbrev pub invariant-loop-left : goal.invariant-loop-left

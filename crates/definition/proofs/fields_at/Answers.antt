@@ -1,5 +1,4 @@
 -- The `match` on the kind is the definition's case by kind.
-use native.Mathlib.Omega.{arith}
 use borrow.Author.Tests.{ne_eqb}
 use Rattle.format.specs.Table.{CHAN, KEYW, TASK}
 use Rattle.format.specs.Definition.{fields_at}

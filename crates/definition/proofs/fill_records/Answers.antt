@@ -1,17 +1,11 @@
 -- The invariant: what is left decides. The rest, laid from here, makes the area what it shall be, and the rest is fine.
-use Prim.Native.Nat.{◌+◌, ◌*◌, ◌≤◌}
-use mathlib.Core.Path.{◌≡◌, refl, sym, ◌∙◌}
+use mathlib.Core.Path.{refl, sym, ◌∙◌}
 use native.Mathlib.Omega.{arith}
 use borrow.Author.Rules.{rules}
-use lib.ListN.{length}
-use Rattle.blob.specs.declared.Verdict.TheVariants as verdicts
-use Rattle.blob.specs.Reading.{run, verdict}
-use Rattle.blob.proofs.Laws.{many-first, many_more, rest, rest_more, rest-none}
-use Rattle.format.specs.Area.{DEFINITIONS, width}
-use Rattle.format.specs.Table.{stride}
+use Rattle.blob.proofs.Laws.{many-first, many_more, rest_more, rest-none}
 use Rattle.format.specs.Definition.{definition_at, step}
 use Rattle.format.specs.Lists.{definition_words}
-use Rattle.definition.specs.Records.{rows, one_less}
+use Rattle.definition.specs.Records.{one_less}
 use Rattle.definition.proofs.fill_records.Goals as goal
 
 pub loop-left-init : goal.loop-left-init

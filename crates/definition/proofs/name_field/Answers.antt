@@ -1,7 +1,6 @@
 -- The others have none.
 use mathlib.Core.Path.{sym}
 use Rattle.definition.specs.Records.{no_name}
-use borrow.Author.Rules.{rules}
 use Rattle.definition.proofs.name_field.Goals as goal
 
 pub returns-in_default : goal.returns-in_default

@@ -1,5 +1,4 @@
 -- The thirteen words, the last one by a cast.
-use borrow.Author.Rules.{rules}
 use Rattle.name.specs.Ended.{ended-cast}
 use Rattle.definition.proofs.put_definition.Goals as goal
 

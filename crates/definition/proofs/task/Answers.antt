@@ -1,5 +1,4 @@
 use mathlib.Core.Path.{◌∙◌}
-use borrow.Author.Rules.{rules}
 use Rattle.definition.specs.Records.{task_found}
 use Rattle.definition.proofs.task.Goals as goal
 

@@ -1,12 +1,11 @@
 -- The invariant: what is left decides. The kept tables of the kinds that are left, with what was counted before, need what all do.
-use Prim.Native.Nat.{◌+◌, ◌-◌, ◌≤◌}
-use mathlib.Core.Path.{◌≡◌, ap, sym, ◌∙◌, subst}
-use mathlib.Core.Logic.{⊎_elim}
+use Prim.Native.Nat.{◌+◌, ◌-◌}
+use mathlib.Core.Path.{ap, sym, ◌∙◌, subst}
 use native.Mathlib.Omega.{arith}
 use borrow.Author.Rules.{rules}
 use lib.ListN.{length}
 use Rattle.blob.specs.declared.Verdict.TheVariants as verdicts
-use Rattle.blob.specs.Reading.{run, verdict, values}
+use Rattle.blob.specs.Reading.{run, values}
 use Rattle.format.specs.Area.{none}
 use Rattle.format.specs.Table.{MAPS, TTBL}
 use Rattle.format.specs.Provider.{elements_from}
@@ -16,7 +15,6 @@ use Rattle.format.specs.steps.Needs.{modest}
 use Rattle.blob.proofs.Laws.{fine-done}
 use native.Mathlib.Nat.{zero-add}
 use Rattle.counts.specs.Short.{modest-set}
-use Rattle.element.specs.Places.{Standing}
 use Rattle.element.specs.Kinds.{kept_from, kept-all, kept-none, kept-header}
 use Rattle.element.specs.Sums.{grown_all, count-here, tables-here, none_here}
 use Rattle.element.specs.Counted.{needed_for, is_elements, no-elements, counts-told}
@@ -58,22 +56,22 @@ loop-left-preserved c =
       omega arith,
       elim c.if-place.branch [ then-place w ↦ omega arith | else-place w ↦ omega arith ],
       elim c.if-place.branch [
-        then-place w ↦ subst modest (sym (w.counts-is ∙ w.grow-counts.ensures)) (modest-set c.loop-left.counts _ _ c.loop-left.invariant.3) |
-        else-place w ↦ subst modest (sym w.counts-is) c.loop-left.invariant.3
+        | then-place w ↦ subst modest (sym (w.counts-is ∙ w.grow-counts.ensures)) (modest-set c.loop-left.counts _ _ c.loop-left.invariant.3)
+        | else-place w ↦ subst modest (sym w.counts-is) c.loop-left.invariant.3
       ],
       c.loop-left.invariant.4,
       c.loop-left.invariant.5,
       elim c.if-place.branch [
-        then-place w ↦
-        sym (count-here _ _ _ _ c.loop-left.invariant.4 _ place _ _ more w.if-place.true c.loop-left.invariant.0 (omega arith) _ w.word.ensures _ (w.counts-is ∙ w.grow-counts.ensures)) |
-        else-place w ↦
-        ap (λ ms. grown_all ms (kept_from es (c.loop-left.left - 1) (c.loop-left.kind + 1))) w.counts-is
-        ∙ ap (grown_all c.loop-left.counts) (sym (none_here _ _ _ _ c.loop-left.invariant.4 _ place c.loop-left.counts _ more c.requires.n_in_bounds.1 w.if-place.false))
+        | then-place w ↦
+            sym (count-here _ _ _ _ c.loop-left.invariant.4 _ place _ _ more w.if-place.true c.loop-left.invariant.0 (omega arith) _ w.word.ensures _ (w.counts-is ∙ w.grow-counts.ensures))
+        | else-place w ↦
+            ap (λ ms. grown_all ms (kept_from es (c.loop-left.left - 1) (c.loop-left.kind + 1))) w.counts-is
+            ∙ ap (grown_all c.loop-left.counts) (sym (none_here _ _ _ _ c.loop-left.invariant.4 _ place c.loop-left.counts _ more c.requires.n_in_bounds.1 w.if-place.false))
       ]
-      ∙ c.loop-left.invariant.6,
+          ∙ c.loop-left.invariant.6,
       elim c.if-place.branch [
-        then-place w ↦ omega (arith, w.tables-is, c.loop-left.invariant.7, tables-here _ _ _ _ c.loop-left.invariant.4 _ place c.loop-left.counts _ more w.if-place.true) |
-        else-place w ↦
-        omega (arith, w.tables-is, c.loop-left.invariant.7, ap (λ ts. length ts) (none_here _ _ _ _ c.loop-left.invariant.4 _ place c.loop-left.counts _ more c.requires.n_in_bounds.1 w.if-place.false))
+        | then-place w ↦ omega (arith, w.tables-is, c.loop-left.invariant.7, tables-here _ _ _ _ c.loop-left.invariant.4 _ place c.loop-left.counts _ more w.if-place.true)
+        | else-place w ↦
+            omega (arith, w.tables-is, c.loop-left.invariant.7, ap (λ ts. length ts) (none_here _ _ _ _ c.loop-left.invariant.4 _ place c.loop-left.counts _ more c.requires.n_in_bounds.1 w.if-place.false))
       ],
     )

@@ -1,25 +1,16 @@
 -- The invariant: what is left decides. The kept tables of the kinds that are left, with what was counted before, need what all do.
-use Prim.Native.Nat.{◌+◌, ◌-◌, ◌≤◌}
-use mathlib.Core.Path.{◌≡◌, ap, sym, ◌∙◌, subst}
-use mathlib.Core.Logic.{⊎_elim}
-use native.Mathlib.Omega.{arith}
-use borrow.Author.Rules.{rules}
+use Prim.Native.Nat.{◌+◌, ◌≤◌}
+use mathlib.Core.Path.{◌≡◌}
 use lib.ListN.{length}
 use Rattle.blob.specs.declared.Verdict.TheVariants as verdicts
 use Rattle.blob.specs.Reading.{run, verdict, values}
 use Rattle.format.specs.Area.{none}
-use Rattle.format.specs.Table.{MAPS, TTBL}
 use Rattle.format.specs.Provider.{elements_from}
 use Rattle.format.specs.Lists.{kept}
-use Rattle.format.specs.Answer.{capped}
 use Rattle.format.specs.steps.Needs.{modest}
-use Rattle.blob.proofs.Laws.{fine-done}
-use native.Mathlib.Nat.{zero-add}
-use Rattle.counts.specs.Short.{modest-set}
 use Rattle.element.specs.Places.{Standing}
-use Rattle.element.specs.Kinds.{kept_from, kept-all, kept-none, kept-header}
-use Rattle.element.specs.Sums.{grown_all, count-here, tables-here, none_here}
-use Rattle.element.specs.Counted.{needed_for, is_elements, no-elements, counts-told}
+use Rattle.element.specs.Kinds.{kept_from}
+use Rattle.element.specs.Sums.{grown_all}
 use Rattle.element.proofs.check.Given as goal
 
 abbrev pub invariant-loop-left : goal.invariant-loop-left

@@ -1,7 +1,6 @@
 -- By what was found of the header.
 use mathlib.Core.Path.{sym, ◌∙◌}
 use native.Mathlib.Omega.{arith}
-use borrow.Author.Rules.{rules}
 use Rattle.element.specs.Checked.{checks_refused, checks_table, header-fits}
 use Rattle.element.proofs.check_element.Goals as goal
 

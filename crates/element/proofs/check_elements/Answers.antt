@@ -1,18 +1,12 @@
 -- The invariant: what is left decides. The answer for the elements that are left, with the counts so far, is that for all, and their
 -- descriptors are fine.
-use Prim.Native.Nat.{◌+◌, ◌*◌, ◌≤◌}
-use mathlib.Core.Path.{◌≡◌, refl, sym, ◌∙◌}
-use mathlib.Core.Logic.{⊎_elim}
+use mathlib.Core.Path.{sym, ◌∙◌}
 use native.Mathlib.Omega.{arith}
-use borrow.Author.Rules.{rules}
-use lib.ListN.{length}
-use Rattle.blob.specs.declared.Verdict.TheVariants as verdicts
-use Rattle.blob.specs.Reading.{run, many, verdict}
 use Rattle.blob.proofs.Laws.{many_more, refused-value}
 use Rattle.format.specs.Definition.{step}
-use Rattle.format.specs.Provider.{descriptor_at, elements_from}
+use Rattle.format.specs.Provider.{descriptor_at}
 use Rattle.element.specs.Elements.{signature-fits, next-described}
-use Rattle.element.specs.Counted.{elements_read, read_from, read_none, is_refused, as_unknown, read_stop, read_unknown, read_table}
+use Rattle.element.specs.Counted.{read_none, is_refused, as_unknown, read_stop, read_unknown, read_table}
 use Rattle.element.proofs.check_elements.Goals as goal
 use Rattle.element.proofs.check_elements.Goals.{then-kind-eq0+in_default, else-kind-eq0+in-Entries}
 
@@ -47,9 +41,9 @@ loop-left-preserved c =
       sym (many_more descriptor_at (step 8) _ _ _ _ more found) ∙ c.loop-left.invariant.2,
       c.loop-left.invariant.3
           ∙ elim c.if-kind-eq0.branch [
-            then-kind-eq0+in_default w ↦
-            rw (w.unknown-is, w.entries-is, w.places-is) (read_unknown _ _ _ more _ found _ q _ _ _ w.if-kind-eq0.true (sym w.check_unknown.ensures ∙ w.in_default.is)) |
-            else-kind-eq0+in-Entries w ↦
-            rw (w.unknown-is, w.entries-is, w.places-is) (read_table _ _ _ more _ found _ q _ _ _ (omega arith) _ (sym w.in-Entries.is ∙ w.check_element.ensures))
+            | then-kind-eq0+in_default w ↦
+                rw (w.unknown-is, w.entries-is, w.places-is) (read_unknown _ _ _ more _ found _ q _ _ _ w.if-kind-eq0.true (sym w.check_unknown.ensures ∙ w.in_default.is))
+            | else-kind-eq0+in-Entries w ↦
+                rw (w.unknown-is, w.entries-is, w.places-is) (read_table _ _ _ more _ found _ q _ _ _ (omega arith) _ (sym w.in-Entries.is ∙ w.check_element.ensures))
           ],
     )

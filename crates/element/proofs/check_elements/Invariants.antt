@@ -1,18 +1,13 @@
 -- The invariant: what is left decides. The answer for the elements that are left, with the counts so far, is that for all, and their
 -- descriptors are fine.
 use Prim.Native.Nat.{◌+◌, ◌*◌, ◌≤◌}
-use mathlib.Core.Path.{◌≡◌, refl, sym, ◌∙◌}
-use mathlib.Core.Logic.{⊎_elim}
-use native.Mathlib.Omega.{arith}
-use borrow.Author.Rules.{rules}
+use mathlib.Core.Path.{◌≡◌}
 use lib.ListN.{length}
 use Rattle.blob.specs.declared.Verdict.TheVariants as verdicts
 use Rattle.blob.specs.Reading.{run, many, verdict}
-use Rattle.blob.proofs.Laws.{many_more, refused-value}
 use Rattle.format.specs.Definition.{step}
 use Rattle.format.specs.Provider.{descriptor_at, elements_from}
-use Rattle.element.specs.Elements.{signature-fits, next-described}
-use Rattle.element.specs.Counted.{elements_read, read_from, read_none, is_refused, as_unknown, read_stop, read_unknown, read_table}
+use Rattle.element.specs.Counted.{elements_read, read_from}
 use Rattle.element.proofs.check_elements.Given as goal
 
 abbrev pub invariant-loop-left : goal.invariant-loop-left

@@ -1,5 +1,4 @@
 -- By what was found of the table's end.
-use borrow.Author.Rules.{rules}
 use mathlib.Core.Path.{ap, sym, ◌∙◌}
 use Rattle.format.specs.steps.Needs.{table_read}
 use Rattle.element.specs.Checked.{events-refused, events-found}

@@ -1,8 +1,6 @@
 -- Each kind's own check.
 use mathlib.Core.Path.{ap, ◌∙◌}
 use native.Mathlib.Omega.{arith}
-use borrow.Author.Rules.{rules}
-use Rattle.format.specs.Table.{header_length}
 use Rattle.element.specs.Checked.{without_entries, checks_events, checks_maps, checks_templates, checks_definitions, record_least}
 use Rattle.element.proofs.check_table.Goals as goal
 

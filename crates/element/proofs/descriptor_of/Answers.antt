@@ -1,5 +1,4 @@
 -- A descriptor that is fine is its words.
-use borrow.Author.Rules.{rules}
 use native.Mathlib.Omega.{arith}
 use Rattle.element.specs.Elements.{descriptor_fits, descriptor_words_lem}
 use Rattle.element.proofs.descriptor_of.Goals as goal

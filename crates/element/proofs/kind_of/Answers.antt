@@ -1,7 +1,6 @@
 -- A signature that is not the one in its cell, and the eight signatures one by one.
 use mathlib.Core.Path.{sym, ◌∙◌}
 use native.Mathlib.Omega.{arith}
-use borrow.Author.Rules.{rules}
 use borrow.Author.Tests.{ne_eqb}
 use Rattle.format.specs.Table.{kind_in}
 use Rattle.element.specs.Signatures.{names-none}

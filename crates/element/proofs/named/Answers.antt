@@ -1,5 +1,4 @@
 -- The eight cells, one by one.
-use borrow.Author.Rules.{rules}
 use borrow.Author.Tests.{ne_eqb}
 use Rattle.element.specs.Signatures.{in_cell}
 use Rattle.element.proofs.named.Goals as goal

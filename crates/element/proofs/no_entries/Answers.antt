@@ -1,5 +1,4 @@
 -- A verdict is a refusal or Fine.
-use borrow.Author.Rules.{rules}
 use Rattle.element.proofs.no_entries.Goals as goal
 
 pub returns-in-Refused : goal.returns-in-Refused

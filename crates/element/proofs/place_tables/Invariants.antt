@@ -1,14 +1,11 @@
 -- The invariant: what is left decides. The places so far, with those of the elements that are left, are those of all.
 use Prim.Native.Nat.{◌+◌, ◌*◌, ◌≤◌}
-use mathlib.Core.Path.{◌≡◌, refl, sym, ◌∙◌}
-use native.Mathlib.Omega.{arith}
-use borrow.Author.Rules.{rules}
-use lib.ListN.{length, length-set}
+use mathlib.Core.Path.{◌≡◌}
+use lib.ListN.{length}
 use Rattle.blob.specs.declared.Verdict.TheVariants as verdicts
 use Rattle.blob.specs.Reading.{run, verdict, values}
 use Rattle.format.specs.Provider.{elements_from}
-use Rattle.element.specs.Elements.{from-described, next-described, from-fine}
-use Rattle.element.specs.Places.{placed, placed-more, placed-none}
+use Rattle.element.specs.Places.{placed}
 use Rattle.element.proofs.place_tables.Given as goal
 
 abbrev pub invariant-loop-left : goal.invariant-loop-left

@@ -1,6 +1,5 @@
 use mathlib.Core.Path.{sym, ◌∙◌}
 use Rattle.blob.specs.Reading.{done}
-use borrow.Author.Rules.{rules}
 use Rattle.event.specs.Events.{event-found}
 use Rattle.event.proofs.event_at.Goals as goal
 

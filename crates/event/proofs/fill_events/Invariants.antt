@@ -1,15 +1,12 @@
 -- The invariant: what is left decides. The rest, laid from here, makes the area what it shall be; no event is refused.
 use Prim.Native.Nat.{◌+◌, ◌*◌, ◌≤◌}
-use mathlib.Core.Path.{◌≡◌, refl, sym, ◌∙◌}
-use native.Mathlib.Omega.{arith}
-use borrow.Author.Rules.{rules}
+use mathlib.Core.Path.{◌≡◌}
 use lib.ListN.{length}
-use Rattle.blob.proofs.Laws.{rest, rest_more, rest-none}
+use Rattle.blob.proofs.Laws.{rest}
 use Rattle.format.specs.Area.{EVENTS, width}
 use Rattle.format.specs.Definition.{step}
 use Rattle.format.specs.Event.{event_at}
 use Rattle.format.specs.Lists.{event_words}
-use Rattle.event.specs.Events.{events-fine}
 use Rattle.event.proofs.fill_events.Given as goal
 
 abbrev pub invariant-loop-left : goal.invariant-loop-left

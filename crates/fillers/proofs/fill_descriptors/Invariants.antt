@@ -1,17 +1,14 @@
 -- The invariant: what is left decides. The rest, laid from here, makes the area what it shall be, and the rest is fine.
 use Prim.Native.Nat.{◌+◌, ◌*◌, ◌≤◌}
-use mathlib.Core.Path.{◌≡◌, refl, sym, ◌∙◌}
-use native.Mathlib.Omega.{arith}
-use borrow.Author.Rules.{rules}
+use mathlib.Core.Path.{◌≡◌}
 use lib.ListN.{length}
 use Rattle.blob.specs.declared.Verdict.TheVariants as verdicts
 use Rattle.blob.specs.Reading.{run, many, verdict}
-use Rattle.blob.proofs.Laws.{many_more, rest, rest_more, rest-none}
+use Rattle.blob.proofs.Laws.{rest}
 use Rattle.format.specs.Area.{DESCRIPTORS, width}
 use Rattle.format.specs.Definition.{step}
 use Rattle.format.specs.Lists.{descriptor_words}
 use Rattle.format.specs.Provider.{descriptor_at}
-use Rattle.element.specs.Elements.{next-described}
 use Rattle.fillers.proofs.fill_descriptors.Given as goal
 
 abbrev pub invariant-loop-left : goal.invariant-loop-left

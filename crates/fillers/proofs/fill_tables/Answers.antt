@@ -1,16 +1,12 @@
 -- The invariant: what is left decides. What the list has of the kinds that are left, laid from here, makes the area what it shall be.
-use Prim.Native.Nat.{◌+◌, ◌≤◌}
-use mathlib.Core.Path.{◌≡◌, refl}
+use Prim.Native.Nat.{◌≤◌}
+use mathlib.Core.Path.{refl}
 use native.Mathlib.Omega.{arith}
 use borrow.Author.Rules.{rules}
-use lib.ListN.{replicate}
-use Rattle.blob.specs.Reading.{run, values}
-use Rattle.format.specs.Provider.{elements_from}
-use Rattle.format.specs.Lists.{kept}
 use Rattle.format.specs.steps.Parts.{behind_all, table_parts}
-use Rattle.format.proofs.Theorems.Stored.{Left, left-none}
-use Rattle.element.specs.Places.{placed, kind-place}
-use Rattle.element.specs.Kinds.{kinds_from, kept_from, kept-none}
+use Rattle.format.proofs.Theorems.Stored.{left-none}
+use Rattle.element.specs.Places.{kind-place}
+use Rattle.element.specs.Kinds.{kinds_from, kept-none}
 use Rattle.fillers.specs.Kinds.{stands, kept-at, kind-room, kind-left}
 use Rattle.fillers.proofs.fill_tables.Goals as goal
 

@@ -1,17 +1,15 @@
 -- The invariant: what is left decides. The rest, laid from here, makes the area what it shall be, and ends where it shall.
-use Prim.Native.Nat.{◌+◌, ◌*◌, ◌≤◌}
 use mathlib.Core.Path.{◌≡◌, refl, ap, sym, ◌∙◌}
 use mathlib.Core.List.{List, []}
 use native.Mathlib.Omega.{arith}
 use borrow.Author.Rules.{rules}
 use lib.ListN.{length}
-use Rattle.blob.specs.declared.Verdict.TheVariants as verdicts
-use Rattle.blob.specs.Reading.{run, verdict, values}
+use Rattle.blob.specs.Reading.{run, values}
 use Rattle.blob.specs.Laid.{laid, flat}
 use Rattle.format.specs.Provider.{Element, elements_from}
 use Rattle.format.specs.Lists.{unknowns, unknown_words}
 use Rattle.element.specs.Elements.{from-none, from-described, next-described, from-fine}
-use Rattle.fillers.specs.Unknown.{unread, Rest, unknown-room, unknown-next}
+use Rattle.fillers.specs.Unknown.{unread, unknown-room, unknown-next}
 use Rattle.fillers.proofs.fill_unknown.Goals as goal
 
 pub loop-left-init : goal.loop-left-init

@@ -1,15 +1,13 @@
 -- The invariant: what is left decides. A word is never refused, so the rest is fine.
-use Prim.Native.Nat.{ℕ, ◌+◌, ◌*◌, ◌≤◌}
+use Prim.Native.Nat.{ℕ}
 use mathlib.Core.Path.{◌≡◌, refl, ap, sym, ◌∙◌}
 use mathlib.Core.List.{List, [], ◌∷◌}
 use native.Mathlib.Omega.{arith}
 use borrow.Author.Rules.{rules}
-use lib.ListN.{length}
 use Rattle.blob.specs.declared.Verdict.TheVariants as verdicts
 use Rattle.blob.specs.Reading.{run, number, many, verdict}
-use Rattle.blob.proofs.Laws.{finds-number, many-fine, rest, rest_more, rest-none}
+use Rattle.blob.proofs.Laws.{finds-number, many-fine, rest_more, rest-none}
 use Rattle.blob.specs.Laid.{laid}
-use Rattle.format.specs.Area.{UNKNOWN2, width}
 use Rattle.format.specs.Definition.{step}
 use Rattle.format.specs.Lists.{unknown2_words}
 use Rattle.fillers.proofs.fill_unknown2.Goals as goal

@@ -1,14 +1,9 @@
 -- The invariant: what is left decides. A word is never refused, so the rest is fine.
-use Prim.Native.Nat.{ℕ, ◌+◌, ◌*◌, ◌≤◌}
-use mathlib.Core.Path.{◌≡◌, refl, ap, sym, ◌∙◌}
-use mathlib.Core.List.{List, [], ◌∷◌}
-use native.Mathlib.Omega.{arith}
-use borrow.Author.Rules.{rules}
+use Prim.Native.Nat.{◌+◌, ◌*◌, ◌≤◌}
+use mathlib.Core.Path.{◌≡◌}
 use lib.ListN.{length}
-use Rattle.blob.specs.declared.Verdict.TheVariants as verdicts
-use Rattle.blob.specs.Reading.{run, number, many, verdict}
-use Rattle.blob.proofs.Laws.{finds-number, many-fine, rest, rest_more, rest-none}
-use Rattle.blob.specs.Laid.{laid}
+use Rattle.blob.specs.Reading.{number}
+use Rattle.blob.proofs.Laws.{rest}
 use Rattle.format.specs.Area.{UNKNOWN2, width}
 use Rattle.format.specs.Definition.{step}
 use Rattle.format.specs.Lists.{unknown2_words}

@@ -1,6 +1,5 @@
 use mathlib.Core.Path.{refl}
 use borrow.Author.Tests.{ne_eqb}
-use borrow.Author.Rules.{rules}
 use Rattle.fillers.proofs.has_any.Goals as goal
 
 pub returns-then-place-eq-NONE : goal.returns-then-place-eq-NONE

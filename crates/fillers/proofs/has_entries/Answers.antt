@@ -1,6 +1,5 @@
 -- By the list.
 use borrow.Author.Tests.{ne_eqb}
-use borrow.Author.Rules.{rules}
 use Rattle.fillers.proofs.has_entries.Goals as goal
 
 pub returns-in-4 : goal.returns-in-4

@@ -1,6 +1,5 @@
 -- Two words of it.
 use mathlib.Core.Path.{refl}
-use borrow.Author.Rules.{rules}
 use Rattle.fillers.proofs.header_of.Goals as goal
 
 pub returns : goal.returns

@@ -1,8 +1,7 @@
 -- The rows of the table that is kept, or nothing.
-use mathlib.Core.Path.{ap, sym, ◌∙◌, subst}
+use mathlib.Core.Path.{sym, ◌∙◌, subst}
 use mathlib.Core.List.{List}
 use native.Mathlib.Omega.{arith}
-use borrow.Author.Rules.{rules}
 use Rattle.format.specs.Provider.{Table}
 use Rattle.format.specs.steps.Parts.{TablesRoom}
 use Rattle.table.specs.Headers.{header-bytes}

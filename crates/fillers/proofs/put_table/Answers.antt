@@ -2,7 +2,6 @@
 use mathlib.Core.Path.{ap}
 use native.Mathlib.Omega.{arith}
 use lib.ListN.{get_or}
-use borrow.Author.Rules.{rules}
 use Rattle.fillers.specs.Filled.{table-room, table-stored}
 use Rattle.fillers.proofs.put_table.Goals as goal
 

@@ -1,10 +1,8 @@
 -- Four words, or none.
-use mathlib.Core.Path.{refl, sym, ◌∙◌}
+use mathlib.Core.Path.{sym, ◌∙◌}
 use native.Mathlib.Omega.{arith}
-use borrow.Author.Tests.{eq-eqb, ne_eqb}
+use borrow.Author.Tests.{ne_eqb}
 use Rattle.blob.specs.Laid.{laid}
-use borrow.Author.Rules.{rules}
-use borrow.Author.Rules.{rules}
 use Rattle.fillers.proofs.put_unknown.Goals as goal
 
 pub word-size-requires : goal.word-size-requires

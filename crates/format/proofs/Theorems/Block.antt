@@ -1,7 +1,7 @@
 -- A longer block never shifts an old figure: a second blob of CRIM.size m, at least the first's n, that agrees with an accepted one on
 -- every byte that its reading rests on, bytes 4 to 7 excepted, is accepted with the same lists, given room; and m is n if the reading
 -- takes any of those four bytes for anything besides CRIM.size.
-use Prim.{Unit, tt}
+use Prim.{tt}
 use Rattle.std.specs.Prelude.{ℕ, zero, suc, ◌+◌, ◌≤◌, ◌<◌, ◌≡◌, refl, Bool, true, false, List, [], ◌∷◌, ◌++◌, length, take, leb}
 use Rattle.std.proofs.Common.{ap, ◌∙◌, subst, arith, length-take-le, le-leb, leb-true, leb-false, eq-eqb}
 use Rattle.std.proofs.Math.Path.{sym}

@@ -5,7 +5,7 @@ use borrow.Rule.Slice.PartMut.{mid_of, put_mid}
 use Rattle.blob.specs.Laid.{laid, laid_more, laid-area, length-laid}
 use Rattle.format.specs.Provider.{Table}
 use Rattle.format.specs.steps.Parts.{Counted, Room, Stored, behind, behind_all, table_part, table_parts}
-use Rattle.format.proofs.Theorems.Grows.{behind_all-append, behind_all-length, behind_all-grows}
+use Rattle.format.proofs.Theorems.Grows.{behind_all-length, behind_all-grows}
 
 -- of some words for an area, others are left, from a place on, and behind them all will be written that shall be
 pub record Left (words behind area words' behind' area' : List ℕ) (to : ℕ) : Type 0 where

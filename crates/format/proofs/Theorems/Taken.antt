@@ -1,5 +1,4 @@
 -- The lists taken out of the lent words behind a reading are the definition's lists, entry for entry.
-use Prim.{tt}
 use Rattle.std.specs.Prelude.{ℕ, zero, suc, ◌+◌, ◌*◌, ◌≤◌, ◌<◌, ◌≡◌, true, get_or, take, drop, set, leb, eqb}
 use Rattle.std.proofs.Math.Path.{refl}
 use Rattle.std.proofs.Common.{ap, ap₂, sym, ◌∙◌, subst, add-zero, suc-add, add_assoc, mul_comm, mul-le-mul_right, add-one, arith, length-append, take-take, drop-drop, take_at, drop_at, length-take-le}

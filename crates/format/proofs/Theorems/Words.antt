@@ -1,5 +1,5 @@
 -- The words that lookups and programs ask for stand where the lists have them.
-use Rattle.std.specs.Prelude.{◌≡◌, refl, List, [], ◌∷◌, ℕ, length, take, drop}
+use Rattle.std.specs.Prelude.{◌≡◌, refl, List, [], ◌∷◌, ℕ, take, drop}
 use Rattle.format.specs.Entry.{TABLE_PROVIDER, TABLE_KIND, TABLE_FIRST, TABLE_COUNT, GUID, KEY, EVENT_TEMPLATE, TEMPLATE_PROVIDER, TEMPLATE_OFFSET, TEMPLATE_SIZE, TEMPLATE_GUID, TEMPLATE_START, TEMPLATE_LENGTH}
 use Rattle.format.specs.Area.{of}
 use Rattle.format.specs.Provider.{Provider}

@@ -1,6 +1,6 @@
 -- What it is that one block is another, longer one, and that the lent words have room for some lists: what the theorem that a longer block
 -- never shifts an old figure supposes.
-use Prim.{Unit, tt}
+use Prim.{Unit}
 use Rattle.std.specs.Prelude.{ℕ, ◌≤◌, ◌<◌, ◌≡◌, List, [], ◌∷◌, length, get_or}
 use Rattle.blob.specs.Le.{le}
 use Rattle.blob.specs.Places.{Each}

@@ -1,7 +1,6 @@
 -- The array fits the TEMP or not; where it does, its items decide.
 use mathlib.Core.Path.{ap, sym, ◌∙◌}
 use native.Mathlib.Omega.{arith}
-use borrow.Author.Rules.{rules}
 use Rattle.blob.specs.declared.Verdict.TheVariants as verdicts
 use Rattle.blob.specs.Reading.{verdict}
 use Rattle.item.specs.Items.{start_fits, items-row, items-past}

@@ -1,9 +1,7 @@
 -- An offset that is 0 or not before the TEMP passes the definition's test, and the name decides.
 use mathlib.Core.Path.{◌≡◌, refl, ap, sym, ◌∙◌}
 use mathlib.Core.Bool.{Bool, true, false, ◌||◌}
-use mathlib.Core.Logic.{⊎_elim}
 use lib.Dec.{leb, eqb}
-use borrow.Author.Rules.{rules}
 use borrow.Author.Tests.{ne_eqb, eq-eqb, le-leb, lt-leb}
 use Rattle.blob.specs.declared.Verdict.TheVariants as verdicts
 use Rattle.blob.specs.Reading.{verdict}
@@ -26,7 +24,7 @@ unfolding item_name_at
 returns c =
     let here : (eqb c.args.offset 0 || leb c.args.temp c.args.offset) ≡ true =
     elim c.if-offset-temp.branch [
-      then-offset-temp+else-offset-ne0 w ↦ rw (eq-eqb _ _ w.if-offset-ne0.false) |
-      else-offset-temp w ↦ from_or (eqb c.args.offset 0) (leb c.args.temp c.args.offset) (le-leb _ _ w.if-offset-temp.false)
+      | then-offset-temp+else-offset-ne0 w ↦ rw (eq-eqb _ _ w.if-offset-ne0.false)
+      | else-offset-temp w ↦ from_or (eqb c.args.offset 0) (leb c.args.temp c.args.offset) (le-leb _ _ w.if-offset-temp.false)
     ] in
     c.check.ensures ∙ sym (ap verdict (run_holds _ _ _ _ here))

@@ -1,12 +1,8 @@
 -- The invariant: what is left decides. The verdict of the items that are left is that of all.
-use Prim.Native.Nat.{◌+◌, ◌*◌, ◌≤◌}
-use mathlib.Core.Path.{◌≡◌, refl, sym, ◌∙◌}
+use mathlib.Core.Path.{sym, ◌∙◌}
 use native.Mathlib.Omega.{arith}
-use borrow.Author.Rules.{rules}
-use Rattle.blob.specs.Reading.{run, many, verdict}
 use Rattle.blob.proofs.Laws.{many_more, many-stop, many-none, refused-value, fine-value}
 use Rattle.format.specs.Definition.{step}
-use Rattle.format.specs.Item.{item_at}
 use Rattle.item.specs.Items.{item_verdict}
 use Rattle.item.proofs.check_row.Goals as goal
 

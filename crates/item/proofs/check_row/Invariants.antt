@@ -1,13 +1,9 @@
 -- The invariant: what is left decides. The verdict of the items that are left is that of all.
 use Prim.Native.Nat.{◌+◌, ◌*◌, ◌≤◌}
-use mathlib.Core.Path.{◌≡◌, refl, sym, ◌∙◌}
-use native.Mathlib.Omega.{arith}
-use borrow.Author.Rules.{rules}
+use mathlib.Core.Path.{◌≡◌}
 use Rattle.blob.specs.Reading.{run, many, verdict}
-use Rattle.blob.proofs.Laws.{many_more, many-stop, many-none, refused-value, fine-value}
 use Rattle.format.specs.Definition.{step}
 use Rattle.format.specs.Item.{item_at}
-use Rattle.item.specs.Items.{item_verdict}
 use Rattle.item.proofs.check_row.Given as goal
 
 abbrev pub invariant-loop-left : goal.invariant-loop-left

@@ -1,16 +1,11 @@
 -- The invariant: what is left decides. The rest, laid from here, makes the area what it shall be, and the rest is fine.
-use Prim.Native.Nat.{◌+◌, ◌*◌, ◌≤◌}
-use mathlib.Core.Path.{◌≡◌, refl, ap, sym, ◌∙◌}
+use mathlib.Core.Path.{refl, ap, sym, ◌∙◌}
 use native.Mathlib.Omega.{arith}
 use borrow.Author.Rules.{rules}
-use lib.ListN.{length}
-use Rattle.blob.specs.declared.Verdict.TheVariants as verdicts
-use Rattle.blob.specs.Reading.{run, many, verdict, values}
+use Rattle.blob.specs.Reading.{verdict, values}
 use Rattle.blob.specs.Laid.{laid, flat}
-use Rattle.blob.proofs.Laws.{fine-value, many-first, many_more, rest, rest_more, rest-none}
-use Rattle.format.specs.Area.{ITEMS, width}
+use Rattle.blob.proofs.Laws.{fine-value, many-first, many_more, rest_more, rest-none}
 use Rattle.format.specs.Definition.{step}
-use Rattle.format.specs.Item.{item_at, items_from}
 use Rattle.format.specs.Lists.{item_words}
 use Rattle.item.specs.Items.{items-row, items-fit}
 use Rattle.item.proofs.fill.Goals as goal

@@ -1,18 +1,13 @@
 -- The invariant: what is left decides. The answer for the providers that are left, with the needs so far, is that for all.
 use Prim.Native.Nat.{◌+◌, ◌*◌, ◌≤◌}
-use mathlib.Core.Path.{◌≡◌, refl, ap, sym, ◌∙◌, subst}
-use native.Mathlib.Omega.{arith}
+use mathlib.Core.Path.{◌≡◌}
 use lib.ListN.{length}
 use Rattle.blob.specs.Reading.{run, many}
 use Rattle.format.specs.Area.{none}
 use Rattle.format.specs.Definition.{step}
 use Rattle.format.specs.Crim.{described_at}
-use Rattle.format.specs.steps.Needs.{modest, needs_all, providers_read}
-use Rattle.format.proofs.Theorems.Needed.{plus-modest}
+use Rattle.format.specs.steps.Needs.{modest, providers_read}
 use Rattle.areas.specs.Areas.{providers}
-use Rattle.areas.specs.Walked.{none_left}
-use Rattle.manifest.specs.Walked.{is_needs, is_refused, needs_more, needs_stop}
-use borrow.Author.Rules.{rules}
 use Rattle.manifest.proofs.check.Given as goal
 
 abbrev pub invariant-loop-p : goal.invariant-loop-p

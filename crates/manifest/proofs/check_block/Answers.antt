@@ -8,8 +8,6 @@ use Rattle.blob.specs.declared.Verdict.TheVariants as verdicts
 use Rattle.format.specs.Area.{none}
 use Rattle.format.specs.steps.Needs.{providers_read}
 use Rattle.manifest.specs.Read.{array-cut, array_whole}
-use borrow.Author.Rules.{rules}
-use borrow.Author.Rules.{rules}
 use Rattle.manifest.proofs.check_block.Goals as goal
 
 pub returns-then-b-bytes : goal.returns-then-b-bytes

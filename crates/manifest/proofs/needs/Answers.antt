@@ -7,8 +7,6 @@ use Rattle.format.specs.Crim.{header}
 use Rattle.format.specs.Answer.{answer, needing}
 use Rattle.format.proofs.Theorems.Determined.{needs_refused}
 use Rattle.manifest.specs.Read.{block-long, block-headless, block-headed, is_header, no-header_read, sized}
-use borrow.Author.Rules.{rules}
-use borrow.Author.Rules.{rules}
 use Rattle.manifest.proofs.needs.Goals as goal
 
 pub returns-then-bytes-gt-LONGEST : goal.returns-then-bytes-gt-LONGEST

@@ -1,6 +1,6 @@
 -- The providers, and what they need.
 use Prim.Native.Nat.{ℕ, ◌+◌, ◌*◌}
-use mathlib.Core.Path.{ap, sym, ◌∙◌}
+use mathlib.Core.Path.{ap, ◌∙◌}
 use mathlib.Core.List.{List}
 use Rattle.blob.specs.Reading.{run}
 use Rattle.format.specs.Answer.{answer, needing}
@@ -8,8 +8,6 @@ use Rattle.format.specs.Crim.{providers_of}
 use Rattle.format.proofs.Theorems.Needed.{needed}
 use Rattle.manifest.specs.Read.{block_refused, block-done}
 use Rattle.manifest.specs.Walked.{is_providers, no-providers}
-use borrow.Author.Rules.{rules}
-use borrow.Author.Rules.{rules}
 use Rattle.manifest.proofs.needs_block.Goals as goal
 
 pub returns-in-Refused : goal.returns-in-Refused

@@ -5,10 +5,7 @@ use lib.ListN.{length-take}
 use Rattle.blob.specs.Reading.{run, refused}
 use Rattle.format.specs.Crim.{header}
 use Rattle.format.specs.Answer.{answer, held}
-use borrow.Author.Tests.{not-true, not-false}
 use Rattle.manifest.specs.Read.{too_long, unlent, no_header, headed, is_header, no-header_read, sized}
-use borrow.Author.Rules.{rules}
-use borrow.Author.Rules.{rules}
 use Rattle.manifest.proofs.read.Goals as goal
 
 pub returns-then-bytes-gt-LONGEST : goal.returns-then-bytes-gt-LONGEST

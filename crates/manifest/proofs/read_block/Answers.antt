@@ -7,8 +7,6 @@ use Rattle.format.specs.Crim.{providers_of}
 use Rattle.format.specs.steps.Needs.{needs_all}
 use Rattle.manifest.specs.Read.{array-done, reading-refused}
 use Rattle.manifest.specs.Walked.{is_providers, no-providers}
-use borrow.Author.Rules.{rules}
-use borrow.Author.Rules.{rules}
 use Rattle.manifest.proofs.read_block.Goals as goal
 
 pub returns-in-Refused : goal.returns-in-Refused

@@ -1,7 +1,6 @@
 -- The refusal, and no entries.
 use mathlib.Core.Path.{refl}
 use Rattle.format.specs.Answer.{answer}
-use borrow.Author.Rules.{rules}
 use Rattle.manifest.proofs.refuse.Goals as goal
 
 pub returns : goal.returns

@@ -7,7 +7,6 @@ use Rattle.format.specs.Area.{AREAS}
 use Rattle.format.specs.Answer.{answer, held}
 use Rattle.areas.specs.Areas.{lent_both}
 use Rattle.manifest.specs.Stored.{store_refused, store_roomy, store_done, store_counted}
-use borrow.Author.Rules.{rules}
 use Rattle.manifest.proofs.store.Goals as goal
 
 pub fill_areas-requires : goal.fill_areas-requires

@@ -1,16 +1,12 @@
 -- The invariant: what is left decides. The answer for the maps that are left, with the entries so far, is that for all.
-use Prim.Native.Nat.{◌+◌, ◌*◌, ◌≤◌}
-use mathlib.Core.Path.{◌≡◌, ap, sym, ◌∙◌}
+use mathlib.Core.Path.{ap, sym, ◌∙◌}
 use native.Mathlib.Omega.{arith}
 use borrow.Author.Rules.{rules}
-use lib.ListN.{length}
-use Rattle.blob.specs.Reading.{run}
 use Rattle.blob.proofs.Laws.{many-refused, many-empty}
 use Rattle.format.specs.Definition.{step}
-use Rattle.format.specs.steps.Needs.{maps_read}
 use Rattle.format.proofs.Theorems.Counting.{counted-all, counted_none}
 use Rattle.map.specs.Decides.{is_refused}
-use Rattle.map.specs.Listed.{listed_at, listed}
+use Rattle.map.specs.Listed.{listed_at}
 use Rattle.map.specs.Next.{unread, counted_from, next-counted}
 use Rattle.map.proofs.counted.Goals as goal
 

@@ -2,7 +2,6 @@
 use mathlib.Core.Path.{ap, sym, ◌∙◌}
 use Rattle.format.specs.Map.{map_read}
 use Rattle.map.specs.Listed.{listed-first, listed-word}
-use borrow.Author.Rules.{rules}
 use Rattle.map.proofs.listed_at.Goals as goal
 
 pub returns-then-place-start : goal.returns-then-place-start

@@ -4,7 +4,6 @@ use native.Mathlib.Omega.{arith}
 use Rattle.format.specs.declared.MapRead.TheVariants as read
 use Rattle.format.specs.Map.{map_read}
 use Rattle.map.specs.Decides.{refuses, map-past, map-cut, map-value, map_other}
-use borrow.Author.Rules.{rules}
 use Rattle.map.proofs.map_at.Goals as goal
 
 pub returns-then-b-at : goal.returns-then-b-at

@@ -1,5 +1,4 @@
 -- Each field is what the definition says of a map that is no VMAP, by the callees' answers.
-use borrow.Author.Rules.{rules}
 use Rattle.map.proofs.other_map.Goals as goal
 
 pub returns : goal.returns

@@ -1,11 +1,8 @@
 -- The invariant: what is left decides. The entries that are left, laid from here, make the area what it shall be.
-use Prim.Native.Nat.{◌+◌, ◌-◌, ◌*◌, ◌≤◌}
-use mathlib.Core.Path.{◌≡◌, refl, sym, ◌∙◌}
+use mathlib.Core.Path.{refl, sym, ◌∙◌}
 use native.Mathlib.Omega.{arith}
 use borrow.Author.Rules.{rules}
-use lib.ListN.{length}
-use Rattle.blob.proofs.Laws.{rest, rest_more, rest-none}
-use Rattle.format.specs.Area.{ENTRIES, width}
+use Rattle.blob.proofs.Laws.{rest_more, rest-none}
 use Rattle.format.specs.Definition.{step}
 use Rattle.format.specs.Map.{entry_at}
 use Rattle.format.specs.Lists.{map_entry_words}

@@ -1,5 +1,4 @@
 -- The two words.
-use borrow.Author.Rules.{rules}
 use Rattle.map.proofs.put_entry.Goals as goal
 
 pub returns : goal.returns

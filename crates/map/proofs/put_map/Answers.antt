@@ -1,5 +1,4 @@
 -- The twelve words, the last one by a cast.
-use borrow.Author.Rules.{rules}
 use Rattle.name.specs.Ended.{ended-cast}
 use Rattle.map.proofs.put_map.Goals as goal
 

@@ -1,18 +1,12 @@
 -- The invariant: what is left decides. The entries of the maps that are left, laid from here, make the area what it shall be.
-use Prim.Native.Nat.{◌+◌, ◌*◌, ◌≤◌}
-use mathlib.Core.Path.{◌≡◌, refl, sym, ◌∙◌}
+use mathlib.Core.Path.{refl, sym, ◌∙◌}
 use native.Mathlib.Omega.{arith}
 use borrow.Author.Rules.{rules}
-use lib.ListN.{length}
-use Rattle.blob.specs.declared.Verdict.TheVariants as verdicts
-use Rattle.blob.specs.Laid.{laid, flat}
-use Rattle.blob.specs.Reading.{run, verdict, values}
+use Rattle.blob.specs.Laid.{flat}
 use Rattle.blob.proofs.Laws.{fill_none}
-use Rattle.format.specs.Area.{ENTRIES, width}
 use Rattle.format.specs.Definition.{step}
-use Rattle.format.specs.steps.Needs.{entry_count}
-use Rattle.map.specs.Listed.{listed_at, listed}
-use Rattle.map.specs.Next.{unread, entries_words, count_none, never_refused, next-inside, next-fine, next-count, next-entries}
+use Rattle.map.specs.Listed.{listed_at}
+use Rattle.map.specs.Next.{entries_words, count_none, never_refused, next-inside, next-fine, next-count, next-entries}
 use Rattle.map.proofs.put_map_entries.Goals as goal
 
 pub loop-left-init : goal.loop-left-init

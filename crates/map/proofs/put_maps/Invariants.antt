@@ -1,19 +1,14 @@
 -- The invariant: what is left decides. The maps that are left, laid from here, make the area what it shall be, and are fine.
 use Prim.Native.Nat.{◌+◌, ◌*◌, ◌≤◌}
-use mathlib.Core.Path.{◌≡◌, refl, sym, ◌∙◌}
-use native.Mathlib.Omega.{arith}
-use borrow.Author.Rules.{rules}
+use mathlib.Core.Path.{◌≡◌}
 use lib.ListN.{length}
 use Rattle.blob.specs.declared.Verdict.TheVariants as verdicts
-use Rattle.blob.specs.Laid.{laid, flat}
+use Rattle.blob.specs.Laid.{laid}
 use Rattle.blob.specs.Reading.{run, verdict, values}
-use Rattle.blob.proofs.Laws.{fill_none}
 use Rattle.format.specs.Area.{MAPS, width}
-use Rattle.format.specs.Definition.{step}
 use Rattle.format.specs.steps.Needs.{entry_count}
-use Rattle.format.specs.Lists.{map_list}
-use Rattle.map.specs.Listed.{listed_at, listed}
-use Rattle.map.specs.Next.{unread, maps_words, count_none, never_refused, next-fine, next-count, next-maps}
+use Rattle.map.specs.Listed.{listed}
+use Rattle.map.specs.Next.{unread, maps_words}
 use Rattle.map.proofs.put_maps.Given as goal
 
 abbrev pub invariant-loop-left : goal.invariant-loop-left

@@ -1,7 +1,6 @@
 -- A law of Decides for each of the tests, in their order.
 use mathlib.Core.Path.{refl, sym, ◌∙◌}
 use native.Mathlib.Omega.{arith}
-use borrow.Author.Rules.{rules}
 use Rattle.map.specs.Decides.{refuses, value-cut, value-few, value-past, value-over, value-named}
 use Rattle.map.proofs.value_map_at.Goals as goal
 

@@ -3,8 +3,6 @@ use mathlib.Core.Path.{ap, sym, ◌∙◌}
 use Rattle.blob.specs.Reading.{run, verdict}
 use Rattle.format.specs.Name.{name_at}
 use Rattle.name.specs.Sized.{present}
-use borrow.Author.Rules.{rules}
-use native.Mathlib.Omega.{arith}
 use Rattle.name.proofs.check.Goals as goal
 
 pub returns-then-offset-eq0 : goal.returns-then-offset-eq0

@@ -1,7 +1,6 @@
 -- Each return cites the law of the test that led there.
 use mathlib.Core.Path.{ap, sym, ◌∙◌}
 use native.Mathlib.Omega.{arith}
-use borrow.Author.Rules.{rules}
 use borrow.Author.Tests.{le-leb, lt-leb}
 use Rattle.blob.specs.Reading.{verdict}
 use Rattle.name.specs.Sized.{refuses, sized_past, sized-cut, sized-small, sized-short, sized-odd, sized-text}

@@ -2,7 +2,6 @@
 use mathlib.Core.Path.{ap, ◌∙◌}
 use borrow.Author.Tests.{lt-leb, le-leb}
 use Rattle.name.specs.Text.{below}
-use borrow.Author.Rules.{rules}
 use Rattle.name.proofs.four.Goals as goal
 
 pub returns-then-left-lt4 : goal.returns-then-left-lt4

@@ -1,7 +1,6 @@
 -- The sum, without what is past 32 bits, is one less.
 use native.Mathlib.Omega.{arith}
 use Rattle.name.specs.Text.{less}
-use borrow.Author.Rules.{rules}
 use Rattle.name.proofs.less.Goals as goal
 
 pub returns : goal.returns

@@ -4,7 +4,6 @@ use Rattle.blob.specs.Reading.{run, done, verdict}
 use Rattle.format.specs.Name.{name_at}
 use Rattle.name.specs.Text.{texted-fine}
 use Rattle.name.specs.Sized.{sized-fine}
-use borrow.Author.Rules.{rules}
 use native.Mathlib.Omega.{arith}
 use Rattle.name.proofs.name_of.Goals as goal
 

@@ -1,5 +1,4 @@
 -- Each return rewrites the definition's test by the comparisons that led there.
-use borrow.Author.Rules.{rules}
 use borrow.Author.Tests.{lt-ltb, le-ltb, lt-leb, le-leb}
 use Rattle.name.proofs.paired.Goals as goal
 

@@ -1,17 +1,11 @@
 -- The invariant of both loops: what is left decides. The text that is left, with the units so far, is the text of all.
-use Prim.Native.Nat.{◌+◌, ◌-◌, ◌*◌, ◌≤◌}
-use mathlib.Core.Bool.{false}
-use mathlib.Core.Logic.{⊎_elim}
-use mathlib.Core.Path.{◌≡◌, sym, ◌∙◌}
+use mathlib.Core.Path.{sym, ◌∙◌}
 use native.Mathlib.Nat.{sub_self}
 use native.Mathlib.Omega.{arith}
 use borrow.Author.Rules.{rules}
 use borrow.Author.Tests.{leb-true, ltb-true}
 use lib.Dec.{leb}
-use lib.ListN.{length}
-use Rattle.blob.specs.Reading.{run}
 use Rattle.blob.proofs.Laws.{both}
-use Rattle.format.specs.Name.{text}
 use Rattle.name.specs.Text.{text-none, text-zero, text-below, text-above, text-pair, text-unpaired, text-four, pairs-two}
 use Rattle.name.proofs.units.Goals as goal
 use Rattle.name.proofs.units.Goals.{then-unit-lt55296+else-unit-eq0, else-unit-lt55296+else-unit-lt57344}
@@ -72,7 +66,7 @@ loop-left-preserved c = (
   search rules,
   c.loop-left.invariant.2
       ∙ elim c.if-unit-lt55296.branch [
-        then-unit-lt55296+else-unit-eq0 w ↦ text-below _ _ _ _ _ _ _ _ (omega arith) (omega arith) (omega arith) (omega arith) |
-        else-unit-lt55296+else-unit-lt57344 w ↦ text-above _ _ _ _ _ _ _ _ (omega arith) (omega arith) (omega arith)
+        | then-unit-lt55296+else-unit-eq0 w ↦ text-below _ _ _ _ _ _ _ _ (omega arith) (omega arith) (omega arith) (omega arith)
+        | else-unit-lt55296+else-unit-lt57344 w ↦ text-above _ _ _ _ _ _ _ _ (omega arith) (omega arith) (omega arith)
       ],
 )

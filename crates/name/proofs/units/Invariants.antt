@@ -1,18 +1,10 @@
 -- The invariant of both loops: what is left decides. The text that is left, with the units so far, is the text of all.
 use Prim.Native.Nat.{◌+◌, ◌-◌, ◌*◌, ◌≤◌}
 use mathlib.Core.Bool.{false}
-use mathlib.Core.Logic.{⊎_elim}
-use mathlib.Core.Path.{◌≡◌, sym, ◌∙◌}
-use native.Mathlib.Nat.{sub_self}
-use native.Mathlib.Omega.{arith}
-use borrow.Author.Rules.{rules}
-use borrow.Author.Tests.{leb-true, ltb-true}
-use lib.Dec.{leb}
+use mathlib.Core.Path.{◌≡◌}
 use lib.ListN.{length}
 use Rattle.blob.specs.Reading.{run}
-use Rattle.blob.proofs.Laws.{both}
 use Rattle.format.specs.Name.{text}
-use Rattle.name.specs.Text.{text-none, text-zero, text-below, text-above, text-pair, text-unpaired, text-four, pairs-two}
 use Rattle.name.proofs.units.Given as goal
 
 abbrev pub invariant-loop-at : goal.invariant-loop-at

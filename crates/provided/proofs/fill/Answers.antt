@@ -1,7 +1,6 @@
 -- By the list.
 use mathlib.Core.Path.{refl, ap, sym, ◌∙◌}
 use native.Mathlib.Omega.{arith}
-use borrow.Author.Rules.{rules}
 use Rattle.blob.specs.Reading.{verdict}
 use Rattle.provided.specs.Provided.{given, filled-providers, filled-descriptors, filled-unknown2, filled-unknown, filled-tables}
 use Rattle.provided.proofs.fill.Goals as goal

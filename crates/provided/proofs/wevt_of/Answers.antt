@@ -1,7 +1,6 @@
 -- Four words of it.
 use native.Mathlib.Omega.{arith}
 use Rattle.provided.specs.Provided.{header-room, header-words}
-use borrow.Author.Rules.{rules}
 use Rattle.provided.proofs.wevt_of.Goals as goal
 
 pub word-requires : goal.word-requires

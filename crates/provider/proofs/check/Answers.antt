@@ -3,7 +3,6 @@ use mathlib.Core.Path.{ap, sym, ◌∙◌}
 use Rattle.blob.specs.declared.Verdict.TheVariants as verdicts
 use Rattle.format.specs.steps.Needs.{provider_read}
 use Rattle.provider.specs.Parts.{had_room, wevt_refused, array-refused, descriptors-refused, words-refused, elements-refused, provider-found}
-use borrow.Author.Rules.{rules}
 use Rattle.provider.proofs.check.Goals as goal
 
 pub returns-in-Refused : goal.returns-in-Refused

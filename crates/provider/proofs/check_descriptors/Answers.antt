@@ -1,11 +1,7 @@
 -- The invariant: what is left decides. The verdict of the descriptors that are left is that of all.
-use Prim.Native.Nat.{◌+◌, ◌*◌, ◌≤◌}
-use mathlib.Core.Path.{◌≡◌, refl, ap, sym, ◌∙◌}
+use mathlib.Core.Path.{ap, sym, ◌∙◌}
 use native.Mathlib.Omega.{arith}
-use borrow.Author.Rules.{rules}
-use lib.ListN.{length}
 use Rattle.blob.specs.declared.Verdict.TheVariants as verdicts
-use Rattle.blob.specs.Reading.{run, many, verdict}
 use Rattle.blob.proofs.Laws.{many_more, many-stop, many-none}
 use Rattle.format.specs.Definition.{step}
 use Rattle.format.specs.Provider.{descriptor_at}

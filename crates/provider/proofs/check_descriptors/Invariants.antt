@@ -1,15 +1,10 @@
 -- The invariant: what is left decides. The verdict of the descriptors that are left is that of all.
 use Prim.Native.Nat.{◌+◌, ◌*◌, ◌≤◌}
-use mathlib.Core.Path.{◌≡◌, refl, ap, sym, ◌∙◌}
-use native.Mathlib.Omega.{arith}
-use borrow.Author.Rules.{rules}
+use mathlib.Core.Path.{◌≡◌}
 use lib.ListN.{length}
-use Rattle.blob.specs.declared.Verdict.TheVariants as verdicts
 use Rattle.blob.specs.Reading.{run, many, verdict}
-use Rattle.blob.proofs.Laws.{many_more, many-stop, many-none}
 use Rattle.format.specs.Definition.{step}
 use Rattle.format.specs.Provider.{descriptor_at}
-use Rattle.provider.specs.Wevt.{descriptor_past, descriptor_short, descriptor_found, furthest-fits}
 use Rattle.provider.proofs.check_descriptors.Given as goal
 
 abbrev pub invariant-loop-left : goal.invariant-loop-left

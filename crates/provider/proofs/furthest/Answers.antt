@@ -1,11 +1,7 @@
 -- The invariant: the furthest so far, with that of the descriptors that are left, is that of all.
-use Prim.Native.Nat.{◌+◌, ◌*◌, ◌≤◌, max}
-use mathlib.Core.Path.{◌≡◌, sym, ◌∙◌}
-use mathlib.Core.Logic.{⊎_elim}
+use mathlib.Core.Path.{sym, ◌∙◌}
 use native.Mathlib.Omega.{arith}
-use borrow.Author.Rules.{rules}
-use lib.ListN.{length}
-use Rattle.provider.specs.Wevt.{furthest, furthest-more, furthest-none}
+use Rattle.provider.specs.Wevt.{furthest-more, furthest-none}
 use Rattle.provider.proofs.furthest.Goals as goal
 use Rattle.provider.proofs.furthest.Goals.{then-most-place, else-most-place}
 

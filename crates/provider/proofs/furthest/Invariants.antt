@@ -1,11 +1,8 @@
 -- The invariant: the furthest so far, with that of the descriptors that are left, is that of all.
 use Prim.Native.Nat.{◌+◌, ◌*◌, ◌≤◌, max}
-use mathlib.Core.Path.{◌≡◌, sym, ◌∙◌}
-use mathlib.Core.Logic.{⊎_elim}
-use native.Mathlib.Omega.{arith}
-use borrow.Author.Rules.{rules}
+use mathlib.Core.Path.{◌≡◌}
 use lib.ListN.{length}
-use Rattle.provider.specs.Wevt.{furthest, furthest-more, furthest-none}
+use Rattle.provider.specs.Wevt.{furthest}
 use Rattle.provider.proofs.furthest.Given as goal
 
 abbrev pub invariant-loop-left : goal.invariant-loop-left

@@ -1,7 +1,6 @@
 -- The header's tests, one by one.
 use mathlib.Core.Path.{sym, ◌∙◌}
 use native.Mathlib.Omega.{arith}
-use borrow.Author.Rules.{rules}
 use Rattle.blob.proofs.Laws.{answer-found, answer-refused}
 use Rattle.format.specs.declared.WevtRead.TheVariants as read
 use Rattle.provider.specs.Wevt.{wevt_past, wevt_short, wevt_other, wevt_found}

@@ -1,6 +1,5 @@
 use mathlib.Core.Path.{sym, ◌∙◌}
 use native.Mathlib.Omega.{arith}
-use borrow.Author.Rules.{rules}
 use Rattle.blob.proofs.Laws.{answer-found, answer-refused}
 use Rattle.format.specs.declared.HeaderRead.TheVariants as read
 use Rattle.table.specs.Headers.{header-past, header-short, header-other, header-found}

@@ -1,7 +1,6 @@
 -- Each return cites the law of the test that led there.
 use mathlib.Core.Path.{refl, sym, ◌∙◌}
 use native.Mathlib.Omega.{arith}
-use borrow.Author.Rules.{rules}
 use Rattle.blob.proofs.Laws.{answer-found, answer-refused}
 use Rattle.format.specs.declared.EndRead.TheVariants as read
 use Rattle.format.proofs.Theorems.Ends.{is_place, no_end}

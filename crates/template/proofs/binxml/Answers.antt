@@ -1,6 +1,5 @@
 -- Each test of the offset is the definition's own.
 use native.Mathlib.Omega.{arith}
-use borrow.Author.Rules.{rules}
 use borrow.Author.Tests.{eq-eqb, ne_eqb}
 use Rattle.template.proofs.binxml.Goals as goal
 

@@ -1,7 +1,6 @@
 -- What the region's end decides (Templates), and then the TEMPs until it.
 use mathlib.Core.Path.{ap, sym, ◌∙◌}
 use native.Mathlib.Omega.{arith}
-use borrow.Author.Rules.{rules}
 use Rattle.format.specs.steps.Needs.{templates_read}
 use Rattle.format.proofs.Theorems.Ends.{region-bounds}
 use Rattle.template.specs.Templates.{templates-told, templates-refused}

@@ -4,7 +4,7 @@ use mathlib.Core.Bool.{true, not, ◌||◌}
 use mathlib.Core.Logic.{◌⊎◌, ⊎_elim}
 use Rattle.std.proofs.Common.{ℕ}
 use lib.Dec.{eqb}
-use borrow.Author.Tests.{eq-eqb, ne_eqb, not-true, not-false}
+use borrow.Author.Tests.{eq-eqb, ne_eqb}
 use borrow.Author.Rules.{rules}
 use Rattle.blob.specs.declared.Verdict.TheVariants as verdicts
 use Rattle.blob.specs.Reading.{then}

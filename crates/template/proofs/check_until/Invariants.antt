@@ -1,20 +1,13 @@
 -- The invariant: what is left decides. The answer for the TEMPs that are left, with the items so far, is that for all.
-use Prim.Native.Nat.{◌+◌, ◌≤◌, ◌<◌}
-use mathlib.Core.Path.{◌≡◌, ap, sym, ◌∙◌}
-use native.Mathlib.Omega.{arith}
+use Prim.Native.Nat.{◌≤◌}
+use mathlib.Core.Path.{◌≡◌}
 use lib.ListN.{length}
-use borrow.Author.Rules.{rules}
-use borrow.Author.Tests.{lt-leb}
 use Rattle.blob.specs.Reading.{run, many}
-use Rattle.blob.proofs.Laws.{many-refused, many-empty, refused-value, run-fails}
-use Rattle.format.specs.Region.{until, inside}
-use Rattle.format.specs.Template.{Template, template_at, next}
-use Rattle.format.specs.Answer.{capped}
-use Rattle.format.specs.declared.EntriesRead.TheVariants as entries
+use Rattle.format.specs.Region.{until}
+use Rattle.format.specs.Template.{template_at, next}
 use Rattle.format.specs.steps.Needs.{templates_read}
-use Rattle.format.proofs.Theorems.Counting.{counted_from, counted-all, counted_none, counted-more}
-use Rattle.template.specs.Temp.{fine-template, fine-count}
-use Rattle.template.specs.Templates.{turns, turns-again, turns_next}
+use Rattle.format.proofs.Theorems.Counting.{counted_from}
+use Rattle.template.specs.Templates.{turns}
 use Rattle.template.proofs.check_until.Given as goal
 
 abbrev pub invariant-loop-left : goal.invariant-loop-left

@@ -1,6 +1,5 @@
 -- The table's TEMPs are those of its region.
 use mathlib.Core.Path.{ap, sym, ◌∙◌}
-use borrow.Author.Rules.{rules}
 use Rattle.blob.specs.Reading.{verdict}
 use Rattle.template.specs.Templates.{ends_there}
 use Rattle.template.proofs.fill.Goals as goal

@@ -1,5 +1,4 @@
 -- The table's TEMPs are those of its region.
-use borrow.Author.Rules.{rules}
 use Rattle.template.specs.Templates.{ends_there}
 use Rattle.template.proofs.fill_items.Goals as goal
 

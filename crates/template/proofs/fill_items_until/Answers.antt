@@ -1,20 +1,17 @@
 -- The invariant: what is left decides. The items of the rest, laid from here, make the area what it shall be, and the rest is fine.
 use Prim.Native.Nat.{◌+◌, ◌*◌, ◌≤◌}
-use mathlib.Core.Path.{◌≡◌, refl, ap, sym, ◌∙◌}
+use mathlib.Core.Path.{refl, ap, sym, ◌∙◌}
 use native.Mathlib.Omega.{arith}
 use lib.ListN.{length}
 use borrow.Author.Rules.{rules}
-use Rattle.blob.specs.declared.Verdict.TheVariants as verdicts
-use Rattle.blob.specs.Le.{le}
-use Rattle.blob.specs.Reading.{run, many, verdict, values}
-use Rattle.blob.specs.Laid.{laid, flat}
+use Rattle.blob.specs.Reading.{verdict}
+use Rattle.blob.specs.Laid.{flat}
 use Rattle.blob.proofs.Laws.{many_more, values-none, fill_none}
 use Rattle.format.specs.Area.{ITEMS, width}
 use Rattle.format.specs.Region.{until}
 use Rattle.format.specs.Template.{template_at, next}
 use Rattle.format.specs.Lists.{item_list}
 use Rattle.format.specs.steps.Needs.{total, item_count}
-use Rattle.template.specs.Temp.{Stands}
 use Rattle.template.specs.Templates.{first_fine, next-items, next-words}
 use Rattle.template.proofs.fill_items_until.Goals as goal
 

@@ -1,17 +1,15 @@
 -- The invariant: what is left decides. The rest, laid from here, makes the area what it shall be, and the rest is fine.
 use Prim.Native.Nat.{◌+◌, ◌*◌, ◌≤◌}
-use mathlib.Core.Path.{◌≡◌, refl, sym, ◌∙◌}
-use native.Mathlib.Omega.{arith}
+use mathlib.Core.Path.{◌≡◌}
 use lib.ListN.{length}
-use borrow.Author.Rules.{rules}
 use Rattle.blob.specs.declared.Verdict.TheVariants as verdicts
 use Rattle.blob.specs.Reading.{run, many, verdict}
-use Rattle.blob.proofs.Laws.{many_more, rest, rest_more, rest-none}
+use Rattle.blob.proofs.Laws.{rest}
 use Rattle.format.specs.Area.{TEMPLATES, width}
 use Rattle.format.specs.Region.{until}
 use Rattle.format.specs.Template.{template_at, next}
 use Rattle.format.specs.Lists.{template_words}
-use Rattle.template.specs.Templates.{first_fine, turns, turns-again, turns_next}
+use Rattle.template.specs.Templates.{turns}
 use Rattle.template.proofs.fill_until.Given as goal
 
 abbrev pub invariant-loop-left : goal.invariant-loop-left

@@ -1,6 +1,5 @@
 -- Each place is answered as the definition answers it.
 use mathlib.Core.Path.{ap}
-use borrow.Author.Rules.{rules}
 use Rattle.blob.specs.declared.Verdict.TheVariants as verdicts
 use Rattle.blob.specs.Reading.{run}
 use Rattle.format.specs.Template.{items_at}

@@ -1,6 +1,5 @@
 -- Each word is the definition's own.
 use mathlib.Core.Path.{ap, ◌∙◌}
-use borrow.Author.Rules.{rules}
 use Rattle.blob.specs.Laid.{laid}
 use Rattle.template.specs.Temp.{guid-is}
 use Rattle.template.proofs.put.Goals as goal

@@ -1,6 +1,5 @@
 -- A table that was found fine has a region.
 use mathlib.Core.Path.{ap, sym, ◌∙◌}
-use borrow.Author.Rules.{rules}
 use Rattle.blob.specs.Reading.{verdict}
 use Rattle.blob.proofs.Laws.{not_fine}
 use Rattle.template.specs.Templates.{templates-refused}

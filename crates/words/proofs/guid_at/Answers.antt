@@ -1,6 +1,5 @@
 -- The four words are those of the definition.
 use mathlib.Core.Path.{◌∙◌}
-use borrow.Author.Rules.{rules}
 use Rattle.words.specs.Guid.{guid-found}
 use Rattle.words.proofs.guid_at.Goals as goal
 

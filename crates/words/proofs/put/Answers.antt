@@ -1,11 +1,8 @@
 -- What is left decides.
-use Prim.Native.Nat.{◌+◌, ◌-◌, ◌≤◌}
-use mathlib.Core.Path.{◌≡◌, refl, sym, ◌∙◌}
+use mathlib.Core.Path.{sym, ◌∙◌}
 use native.Mathlib.Omega.{arith}
 use native.Mathlib.Nat.{add-zero}
-use borrow.Author.Rules.{rules}
-use lib.ListN.{length, drop, length-set}
-use Rattle.blob.specs.Laid.{laid}
+use lib.ListN.{length-set}
 use Rattle.words.specs.Rest.{laid-rest, laid_none}
 use Rattle.words.proofs.put.Goals as goal
 

@@ -1,12 +1,8 @@
 -- What is left decides.
 use Prim.Native.Nat.{◌+◌, ◌-◌, ◌≤◌}
-use mathlib.Core.Path.{◌≡◌, refl, sym, ◌∙◌}
-use native.Mathlib.Omega.{arith}
-use native.Mathlib.Nat.{add-zero}
-use borrow.Author.Rules.{rules}
-use lib.ListN.{length, drop, length-set}
+use mathlib.Core.Path.{◌≡◌}
+use lib.ListN.{length, drop}
 use Rattle.blob.specs.Laid.{laid}
-use Rattle.words.specs.Rest.{laid-rest, laid_none}
 use Rattle.words.proofs.put.Given as goal
 
 abbrev pub invariant-loop-i : goal.invariant-loop-i

@@ -19,8 +19,8 @@ use Rattle.format.proofs.Theorems.Joins.{lent_still, counts-room, tables-join, t
 use Rattle.format.proofs.Theorems.Owned.{events-owned, events-found}
 use Rattle.format.specs.declared.Answer.{Answer}
 use Rattle.index.specs.Index.{Index, written, index, with_room, entry_of, UNKNOWN2_COUNT, fields_fit, index_of, writing}
-use Rattle.indexer.specs.Theorems.Fields.{block-fits}
-use Rattle.indexer.specs.Theorems.Lists.{lists_back}
+use Rattle.indexer.proofs.Theorems.Fields.{block-fits}
+use Rattle.indexer.proofs.Theorems.Lists.{lists_back}
 
 -- what the index of some providers holds: each one's unknown2 count, and the events of the join
 abbrev pub joined_index : List Provider → Index

@@ -22,7 +22,7 @@ use Rattle.number.specs.Number.{BYTE, HALF, WORD, LONG}
 use Rattle.index.specs.Index.{ENTRY, index, written, entry_of, UNKNOWN2_COUNT, fit, fields_fit, index_of, together, writing}
 use Rattle.index.proofs.Theorems.Rows.{Within}
 use Rattle.index.proofs.Theorems.Back.{Writable, reads_back}
-use Rattle.indexer.specs.Theorems.Inside.{Whole, list-whole}
+use Rattle.indexer.proofs.Theorems.Inside.{Whole, list-whole}
 
 -- a word of some words, and of none
 word_at : (e : List ℕ) → Each (λ w. w < 4294967296) e → (i : ℕ) → word_of i e ≤ WORD

@@ -13,7 +13,7 @@ use Rattle.format.proofs.Theorems.Taken.{laid-here}
 use Rattle.index.specs.Index.{words as words_of, written, reading, index_of, together, writing, given, held, AllowedRead, AllowedWrite}
 use Rattle.index.specs.declared.IndexAnswer.{IndexAnswer}
 use Rattle.index.specs.declared.IndexAnswer.TheVariants as answers
-use Rattle.indexer.specs.Theorems.Lists.{lists_back}
+use Rattle.indexer.proofs.Theorems.Lists.{lists_back}
 
 -- what is written fits the lent bytes
 written-fits : (words capacities counts lent bytes : List ℕ) → writing words capacities counts lent ≡ done bytes → length bytes ≤ length lent

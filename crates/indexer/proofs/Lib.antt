@@ -1,0 +1,2 @@
+-- What holds of what it writes.
+pub mod Theorems
