@@ -12,7 +12,7 @@ use Rattle.blob.specs.Reading.{Reading, got, done, choose, run, ◌>>=◌, many,
 use Rattle.blob.proofs.Laws.{same, then-done}
 use Rattle.blob.proofs.Finds.{Finds, finds-got, finds-room, finds-choose, finds_bind, finds-next}
 use Rattle.blob.specs.Laid.{flat}
-use Rattle.format.specs.Table.{CHAN, KEYW, LEVL, MAPS, OPCO, TASK, TTBL, kinds, kind_of, kind_list}
+use Rattle.format.specs.Table.{header_at, CHAN, KEYW, LEVL, MAPS, OPCO, TASK, TTBL, kinds, kind_of, kind_list}
 use Rattle.format.specs.Provider.{Rows, definitions, maps, templates, Table, Element, table, unknown, Provider, plain, events_at, table_at, unknown_at, element_of, element_at, provider_at}
 use Rattle.format.specs.Crim.{Crim, header, described_at, providers_of, crim}
 use Rattle.format.specs.Lists.{or_else, last_of, kept, Owned, owned_tables, list_of}
@@ -139,9 +139,9 @@ pub record Known (t : Table) : Type 0 where
 
 module _ (s : List ℕ) (at : ℕ) (h : Header) where
   -- a table with no trailing part, and EVNT
-  plain_known : {A : Type 0} (k : ℕ) (r : Reading A) (rows : A → Rows) → k ≤ 8 → ((a : A) → list_of (rows a) ≡ kind_list k) → 1 ≤ k
+  plain_table : {A : Type 0} (k : ℕ) (r : Reading A) (rows : A → Rows) → k ≤ 8 → ((a : A) → list_of (rows a) ≡ kind_list k) → 1 ≤ k
       → Finds (r >>= λ a. got (plain k at h (rows a))) s Known
-  plain_known k r rows g e l = finds_bind _ (anything s) (λ a _. finds-got (record { low = l; high = g; list = e a }))
+  plain_table k r rows g e l = finds_bind _ (anything s) (λ a _. finds-got (record { low = l; high = g; list = e a }))
 
   events-known : Finds (events_at at h) s Known
   unfolding events_at
@@ -152,24 +152,63 @@ module _ (s : List ℕ) (at : ℕ) (h : Header) where
   unfolding table_at
   table-known sig =
       kind-cases (λ k. 1 ≤ k → Finds (table_at k at h) s Known) kinds sig (λ l. absurd (omega arith)) (
-        plain_known CHAN _ definitions (omega arith) (λ ds. refl),
+        plain_table CHAN _ definitions (omega arith) (λ ds. refl),
         (
           λ l. events-known,
           (
-            plain_known KEYW _ definitions (omega arith) (λ ds. refl),
+            plain_table KEYW _ definitions (omega arith) (λ ds. refl),
             (
-              plain_known LEVL _ definitions (omega arith) (λ ds. refl),
+              plain_table LEVL _ definitions (omega arith) (λ ds. refl),
               (
-                plain_known MAPS _ maps (omega arith) (λ ms. refl),
+                plain_table MAPS _ maps (omega arith) (λ ms. refl),
                 (
-                  plain_known OPCO _ definitions (omega arith) (λ ds. refl),
-                  (plain_known TASK _ definitions (omega arith) (λ ds. refl), (plain_known TTBL _ templates (omega arith) (λ ts. refl), tt)),
+                  plain_table OPCO _ definitions (omega arith) (λ ds. refl),
+                  (plain_table TASK _ definitions (omega arith) (λ ds. refl), (plain_table TTBL _ templates (omega arith) (λ ts. refl), tt)),
                 ),
               ),
             ),
           ),
         ),
       )
+
+-- Of the eight kinds the same, step by step: what is known of each table is known of each element, provider and kept table.
+abbrev KnownElement : Element → Type 0
+KnownElement e = OfElement Known e
+
+module _ (s : List ℕ) where
+  tables-known : OfTables Known s
+  tables-known sig at h = table-known s at h sig
+
+  plain_known : {A : Type 0} (k at : ℕ) (h : Header) (r : Reading A) (rows : A → Rows) → 1 ≤ k → k ≤ 8 → ((a : A) → list_of (rows a) ≡ kind_list k)
+      → Finds (r >>= λ a. got (plain k at h (rows a))) s Known
+  plain_known k at h r rows l g e = plain_table s at h k r rows g e l
+
+  of_kind : (k at : ℕ) → ((h : Header) → Finds (table_at k at h) s Known) → Finds (header_at k at >>= λ h. table_at k at h >>= λ t. got (table t)) s KnownElement
+  of_kind k at f = finds_bind _ (anything s) (λ h _. finds_bind Known (f h) (λ t q. finds-got q))
+
+  unknown-known : (at : ℕ) → Finds (unknown_at at) s KnownElement
+  unknown-known = of-unknown Known s tables-known
+
+  element-known : (d : Descriptor) → Finds (element_at d) s KnownElement
+  element-known = of-element Known s tables-known
+
+  provider-known : (guid : Guid) (at : ℕ) → Finds (provider_at guid at) s (λ p. All KnownElement p.elements)
+  provider-known = of-provider Known s tables-known
+
+  described-known : (at : ℕ) → Finds (described_at at) s (λ p. All KnownElement p.elements)
+  described-known = of-described Known s tables-known
+
+  providers-known : (h : CrimHeader) → Finds (providers_of h) s (All (λ p. All KnownElement p.elements))
+  providers-known = of-providers Known s tables-known
+
+last-known : (k : ℕ) (es : List Element) → All KnownElement es → All Known (last_of k es)
+last-known = of-last Known
+
+kept-known : (es : List Element) → All KnownElement es → (ks : List ℕ) → All Known (flat (λ k. last_of k es) ks)
+kept-known = of-kinds Known
+
+all-kept : (ps : List Provider) → All (λ p. All KnownElement p.elements) ps → All (λ p. All Known (kept p.elements)) ps
+all-kept = of-kept Known
 
 -- each kept table of each provider of an accepted block
 pub known : (bytes : List ℕ) (c : Crim) → crim bytes ≡ done c → All (λ p. All Known (kept p.elements)) c.providers
