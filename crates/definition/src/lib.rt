@@ -115,6 +115,7 @@ fn plain(b: &[u8], kind: u32, at: usize) -> Definition
 }
 
 // A record's own fields, by its kind.
+#[tactic(auto, unfolding(format::specs::Definition::fields_at))]
 fn fields_at(b: &[u8], kind: u32, at: usize) -> Definition
     requires { (kind ≤ 8) × (12 ≤ stride kind) × (at + stride kind ≤ length b.now) }
     ensures { run (fields_at kind at) b.now ≡ done result }

@@ -38,6 +38,7 @@ fn refusal(blob: &[u8]) -> Answer
 }
 
 // The answer, with n numbers to store it in.
+#[tactic(auto, unfolding(format::specs::Call::called))]
 fn read(blob: &[u8], words: &mut [u32], capacities: &[u32], n: usize) -> Answer
     ensures value { result ≡ spec.answer (called_block blob.now words.old capacities.now n) }
     ensures words_after { words.new ≡ spec.held words.old capacities.now (called_block blob.now words.old capacities.now n) }
@@ -94,6 +95,7 @@ pub fn ducat_read(blob: &[u8], words: &mut [u32], capacities: &[u32], answer: &m
 }
 
 // What each list needs, with n numbers to store the answer in.
+#[tactic(auto, unfolding(format::specs::Call::called_needs))]
 fn needs(blob: &[u8], n: usize) -> Answer
     ensures { result ≡ spec.needing (call.called_needs blob.now n) }
 {
@@ -124,6 +126,7 @@ fn each_row(capacities: &[u32], counts: &[u32]) -> bool
 }
 
 // A provider's template at an offset, with n numbers to store the answer in.
+#[tactic(auto, unfolding(format::specs::Call::called_at))]
 fn template_at(
     words: &[u32],
     capacities: &[u32],
@@ -226,6 +229,7 @@ fn key_of(numbers: &[u32]) -> Key
 }
 
 // The GUIDs of the templates for a key, with n numbers to store the answer in.
+#[tactic(auto, unfolding(format::specs::Call::called_for))]
 fn templates_for(
     words: &[u32],
     capacities: &[u32],
@@ -292,6 +296,7 @@ pub fn ducat_templates_for(
 }
 
 // The words of an index, with n numbers to store the answer in.
+#[tactic(auto, unfolding(index::specs::Call::called_read))]
 fn index_read(bytes: &[u8], numbers: &mut [u32], n: usize) -> IndexAnswer
     ensures value { result ≡ index.given (called.called_read bytes.now numbers.old n) }
     ensures numbers_after { numbers.new ≡ index.held numbers.old (called.called_read bytes.now numbers.old n) }
@@ -303,6 +308,7 @@ fn index_read(bytes: &[u8], numbers: &mut [u32], n: usize) -> IndexAnswer
 }
 
 // The bytes of the index of lists, with n numbers to store the answer in.
+#[tactic(auto, unfolding(index::specs::Call::called_write))]
 fn index_write(
     words: &[u32],
     capacities: &[u32],

@@ -22,6 +22,7 @@ use format::{Descriptor, EndRead, EntriesRead, Header, HeaderRead, Needed, signa
 pub const NONE: u32 = 4294967295;
 
 // The one known signature that a signature can be: each has its own of eight cells. One comparison then tells those that name no kind.
+#[tactic(auto, unfolding(crate::specs::Signatures::in_cell))]
 fn named(signature: u32) -> u32
     ensures { result ≡ spec.named signature }
 {
@@ -39,6 +40,7 @@ fn named(signature: u32) -> u32
 }
 
 // The kind that a signature names; 0 for none.
+#[tactic(auto, unfolding(format::specs::Table::kind_in))]
 pub fn kind_of(signature: u32) -> u32
     ensures { (result ≡ kind_of signature) × (result ≤ 8) }
 {
