@@ -5,7 +5,7 @@ usage: python3 tools/respell.py [--list] [--edits]      at the top of the reposi
 
 1. A word in camel case that begins with a small letter is turned into snake case: entriesOf is entries_of.
 2. A constant, whose name begins with capitals, has underscores: TABLE-FIRST is TABLE_FIRST, CHAN-name is CHAN_name.
-3. A module begins with a capital: theorems is Theorems.
+3. A module begins with a capital: theorems is Theorems, steps is Steps.
 4. A dash stays where it joins the name of a definition to another name, as in entries_of-append; elsewhere it is an underscore:
    longer-block is longer_block.
 
@@ -18,6 +18,7 @@ import sys
 
 WORD = re.compile(r"[^\W\d][\w'’-]*")
 DECLARED = re.compile(r"^\s*((?:abbrev |pub |unfoldable |data |record )*)([^\s(){}.;,@\"]+) :(?!:)(?: |$)(.*)$", re.M)
+MODULES = {"theorems": "Theorems", "steps": "Steps"}
 LIBRARY = {"uint_Tells", "shr_slice_Lawful", "shr_slice_Tells", "walk_Meets", "uint_Makes", "bool_Lawful", "size-Counts"}
 # What the type of a definition ends in; the type of a lemma ends in a fact.
 DATA = re.compile(r"^(?:ℕ|Bool|List|Reading|Entry|Type|Outcome|Region|Fault|Refusal|Verdict|Name|Guid|Key|Row|Rows|Place|Answer|Table|Template|Provider|Event|Map|MapEntry|Item|Items|Element|Header|Definition|Unknown|Option|Each|Call|Index|Group|Parts?)\b")
@@ -98,18 +99,18 @@ def main():
             ds[:] = [x for x in ds if x != "out"]
             paths += [os.path.join(d, f) for f in fs if f.endswith(".edit")]
     for c in sorted(os.listdir(os.path.join(root, "crates"))):
-        specs = os.path.join(root, "crates", c, "specs")
-        if os.path.isdir(os.path.join(specs, "theorems")):
-            os.rename(os.path.join(specs, "theorems"), os.path.join(specs, "Theorems"))
-            os.rename(os.path.join(specs, "theorems.antt"), os.path.join(specs, "Theorems.antt"))
-            paths = [p.replace(os.path.join(specs, "theorems"), os.path.join(specs, "Theorems")) for p in paths]
+        for old, new in MODULES.items():
+            at, to = (os.path.join(root, "crates", c, "specs", name) for name in (old, new))
+            if os.path.isdir(at):
+                os.rename(at, to)
+                os.rename(at + ".antt", to + ".antt")
+                paths = [p.replace(at + os.sep, to + os.sep).replace(at + ".antt", to + ".antt") for p in paths]
     for p in paths:
         with open(p, encoding="utf-8") as f:
             t = f.read()
         u = WORD.sub(turn, t)
-        u = re.sub(r"(?<=specs\.)theorems\b", "Theorems", u)
-        u = re.sub(r"(?<=specs/)theorems\b", "Theorems", u)
-        u = re.sub(r"(?<=pub mod )theorems\b", "Theorems", u)
+        for old, new in MODULES.items():
+            u = re.sub(rf"(?<=specs\.){old}\b|(?<=specs/){old}\b|(?<=pub mod ){old}\b|(?<=\bformat\.){old}\b", new, u)
         if u != t:
             with open(p, "w", encoding="utf-8") as f:
                 f.write(u)

@@ -13,9 +13,9 @@ use Rattle.format.specs.Provider.{Provider}
 use Rattle.format.specs.Crim.{described_at}
 use Rattle.format.specs.Lists.{Entry, lists}
 use Rattle.format.specs.Answer.{moderate, areas, lent_enough, with_room, counted, filled, capped}
-use Rattle.format.specs.steps.Needs.{needs_all}
+use Rattle.format.specs.Steps.Needs.{needs_all}
 use Rattle.format.proofs.Theorems.Needed.{needed}
-use Rattle.format.specs.steps.Parts as parts
+use Rattle.format.specs.Steps.Parts as parts
 use Rattle.format.proofs.Theorems.Fits.{parts-wide, list-few}
 use Rattle.format.proofs.Theorems.Listed.{listed}
 use Rattle.counts.specs.Short.{widths, numbers, drop_more}

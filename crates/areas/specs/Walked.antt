@@ -11,7 +11,7 @@ use Rattle.format.specs.Definition.{step}
 use Rattle.format.specs.Provider.{Provider}
 use Rattle.format.specs.Crim.{described_at}
 use Rattle.format.specs.Lists.{kept}
-use Rattle.format.specs.steps.Parts.{Counted, Room, parts, passed_all}
+use Rattle.format.specs.Steps.Parts.{Counted, Room, parts, passed_all}
 use Rattle.format.proofs.Theorems.Grows.{passed_all-tables}
 use Rattle.format.proofs.Theorems.Stored.{Left, left-room, left-more, few-before}
 use Rattle.provided.specs.Provided.{part_by, passed_by, ProviderRoom, ProviderStored}

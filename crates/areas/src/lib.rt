@@ -7,8 +7,8 @@ ghost use Rattle.blob.specs.Laid.{laid};
 ghost use Rattle.format.specs.Answer as spec;
 ghost use Rattle.format.specs.Area.{rows, none};
 ghost use Rattle.format.specs.Lists.{lists};
-ghost use Rattle.format.specs.steps.Needs as need;
-ghost use Rattle.format.specs.steps.Parts as parts;
+ghost use Rattle.format.specs.Steps.Needs as need;
+ghost use Rattle.format.specs.Steps.Parts as parts;
 ghost use Rattle.areas.specs.Areas.{providers, providers_in, roomy};
 
 use blob::Verdict;

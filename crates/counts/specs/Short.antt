@@ -10,7 +10,7 @@ use Rattle.blob.specs.declared.Verdict.{Verdict}
 use Rattle.blob.specs.declared.Verdict.TheVariants as verdicts
 use Rattle.format.specs.Area.{Row, DEFINITIONS, rows, AREAS, WIDEST, place}
 use Rattle.format.specs.Answer.{too_small, capped, moderate, areas}
-use Rattle.format.specs.steps.Needs.{plus, modest}
+use Rattle.format.specs.Steps.Needs.{plus, modest}
 use Rattle.format.specs.Table as kind
 use Rattle.format.specs.Table.{EVNT, TTBL, kind_list}
 

@@ -5,7 +5,7 @@
 ghost use Rattle.std.specs.Prelude.{◌≡◌, ◌&&◌, ◌*◌, ◌≤◌, ◌<◌, leb, take, get_or};
 ghost use Rattle.format.specs.Area as area;
 ghost use Rattle.format.specs.Answer as answer;
-ghost use Rattle.format.specs.steps.Needs as needs;
+ghost use Rattle.format.specs.Steps.Needs as needs;
 ghost use Rattle.format.specs.Table.{kind_list};
 ghost use Rattle.counts.specs.Short.{widths, numbers, short};
 

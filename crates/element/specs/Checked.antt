@@ -19,7 +19,7 @@ use Rattle.format.specs.Template.{templates_at}
 use Rattle.format.specs.Map.{maps_at}
 use Rattle.format.specs.Provider.{Rows, definitions, maps, templates, Table, table, plain, unknown_at, events_at, table_at, element_of}
 use Rattle.format.specs.Answer.{capped}
-use Rattle.format.specs.steps.Needs.{entry_count, item_count, inner, count_read, maps_read, templates_read, table_read, element_read}
+use Rattle.format.specs.Steps.Needs.{entry_count, item_count, inner, count_read, maps_read, templates_read, table_read, element_read}
 use Rattle.format.specs.declared.Header.{Header}
 use Rattle.format.specs.declared.HeaderRead.TheVariants as headers
 use Rattle.format.specs.declared.EndRead.TheVariants as ends

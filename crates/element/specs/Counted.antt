@@ -18,7 +18,7 @@ use Rattle.format.specs.Provider.{Rows, definitions, events, maps, templates, Ta
 use Rattle.format.specs.Lists.{last_of, list_of, kept, unknowns, definitions_in, events_in, maps_in, templates_in}
 use Rattle.format.specs.Answer.{capped}
 use Rattle.format.specs.Area as area
-use Rattle.format.specs.steps.Needs.{inner, entries_in, items_in, entries_of, element_read}
+use Rattle.format.specs.Steps.Needs.{inner, entries_in, items_in, entries_of, element_read}
 use Rattle.format.specs.declared.Descriptor.{Descriptor}
 use Rattle.format.specs.declared.EntriesRead.TheVariants as entries
 use Rattle.format.specs.declared.Needed.{Needed}

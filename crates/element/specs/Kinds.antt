@@ -9,7 +9,7 @@ use Rattle.blob.specs.declared.Verdict.TheVariants as verdicts
 use Rattle.blob.specs.Reading.{run, verdict, values}
 use Rattle.format.specs.Provider.{Table, Element, elements_from}
 use Rattle.format.specs.Lists.{last_of, kept}
-use Rattle.format.specs.steps.Needs.{place_of}
+use Rattle.format.specs.Steps.Needs.{place_of}
 use Rattle.table.specs.Headers.{header-bytes}
 use Rattle.element.specs.Tables.{Kept, kept-one}
 

@@ -11,7 +11,7 @@ use Rattle.blob.specs.Reading.{choose, run, done, verdict, values}
 use Rattle.format.specs.Table.{kind_of}
 use Rattle.format.specs.Provider.{Table, Element, table, unknown, descriptor_at, element_at, elements_from}
 use Rattle.format.specs.Lists.{last_of}
-use Rattle.format.specs.steps.Needs.{place_of}
+use Rattle.format.specs.Steps.Needs.{place_of}
 use Rattle.format.specs.declared.Descriptor.{Descriptor}
 use Rattle.element.specs.Tables.{kind-most, is_unknown, is_table}
 use Rattle.element.specs.Elements.{last_or, last-table, from-none, next-element, from-values}

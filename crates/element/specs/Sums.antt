@@ -10,7 +10,7 @@ use Rattle.format.specs.Table.{kind_list}
 use Rattle.format.specs.Provider.{Table, Element, elements_from}
 use Rattle.format.specs.Lists.{last_of, list_of, row_count, after}
 use Rattle.format.specs.Answer.{capped}
-use Rattle.format.specs.steps.Needs.{grown, after_all, place_of}
+use Rattle.format.specs.Steps.Needs.{grown, after_all, place_of}
 use Rattle.format.specs.declared.Header.{Header}
 use Rattle.element.specs.Kinds.{kept_from, kept_more, kept_here, kept-nowhere}
 

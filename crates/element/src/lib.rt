@@ -10,7 +10,7 @@ ghost use Rattle.element.specs.Signatures as spec;
 ghost use Rattle.element.specs.Checked.{without_entries};
 ghost use Rattle.element.specs.Places.{placed};
 ghost use Rattle.element.specs.Counted.{none, elements_read, needed_for};
-ghost use Rattle.format.specs.steps.Needs.{element_read, table_read};
+ghost use Rattle.format.specs.Steps.Needs.{element_read, table_read};
 
 use blob::{Refusal, Verdict};
 use format::field::{UNKNOWN_ELEMENT_END, UNKNOWN_ELEMENT_HEADER};

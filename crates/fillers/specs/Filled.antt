@@ -17,8 +17,8 @@ use Rattle.format.specs.Template.{Template, templates_at}
 use Rattle.format.specs.Map.{Mapped, maps_at}
 use Rattle.format.specs.Provider.{Rows, Table, table_at}
 use Rattle.format.specs.Lists.{definitions_in, events_in, maps_in, templates_in, definition_words, event_words, template_words, item_words, item_list, map_list, map_entry_words}
-use Rattle.format.specs.steps.Needs.{total, entry_count, item_count}
-use Rattle.format.specs.steps.Parts.{Counted, TablesRoom, TablesStored, table_part, table_parts, behind, behind_all}
+use Rattle.format.specs.Steps.Needs.{total, entry_count, item_count}
+use Rattle.format.specs.Steps.Parts.{Counted, TablesRoom, TablesStored, table_part, table_parts, behind, behind_all}
 use Rattle.format.specs.declared.Header.{Header}
 use Rattle.counts.specs.Short.{kind_row}
 use Rattle.fillers.specs.declared.Trailing.{Trailing}

@@ -17,8 +17,8 @@ use Rattle.format.specs.Area.{TABLES, DEFINITIONS, EVENTS, ENTRIES, TEMPLATES, I
 use Rattle.format.specs.Table.{EVNT, MAPS, TTBL, header_length}
 use Rattle.format.specs.Provider.{Table, Element, table_at, elements_from}
 use Rattle.format.specs.Lists.{last_of, definitions_in, events_in, maps_in, templates_in, map_list, item_list}
-use Rattle.format.specs.steps.Needs.{total, place_of}
-use Rattle.format.specs.steps.Parts.{Counted, Room, TablesRoom, TablesStored, behind, behind_all, table_part, table_parts}
+use Rattle.format.specs.Steps.Needs.{total, place_of}
+use Rattle.format.specs.Steps.Parts.{Counted, Room, TablesRoom, TablesStored, behind, behind_all, table_part, table_parts}
 use Rattle.format.proofs.Theorems.Grows.{set_same, behind_all-append}
 use Rattle.format.proofs.Theorems.Stored.{Left, left-room, left-more, table_parts_append, few-before}
 use Rattle.format.specs.declared.Header.{Header}

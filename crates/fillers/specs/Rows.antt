@@ -16,7 +16,7 @@ use Rattle.format.specs.Template.{Template, templates_at}
 use Rattle.format.specs.Map.{Mapped, maps_at}
 use Rattle.format.specs.Provider.{Table, definitions, events, maps, templates, plain, table_at}
 use Rattle.format.specs.Lists.{definitions_in, events_in, maps_in, templates_in}
-use Rattle.format.specs.steps.Parts.{table_part, behind}
+use Rattle.format.specs.Steps.Parts.{table_part, behind}
 use Rattle.format.specs.declared.Header.{Header}
 use Rattle.format.specs.declared.Definition.{Definition}
 use Rattle.format.specs.declared.Event.{Event}

@@ -9,7 +9,7 @@ ghost use Rattle.format.specs.Table.{header_length, kind_of};
 ghost use Rattle.format.specs.Definition.{step};
 ghost use Rattle.format.specs.Provider.{descriptor_at, table_at, elements_from};
 ghost use Rattle.format.specs.Lists.{descriptor_words, unknown2_words, kept, unknowns, unknown_words};
-ghost use Rattle.format.specs.steps.Parts as parts;
+ghost use Rattle.format.specs.Steps.Parts as parts;
 ghost use Rattle.fillers.specs.Unknown.{words_of};
 ghost use Rattle.format.specs.Area as rows;
 ghost use Rattle.format.specs.Area.{width};

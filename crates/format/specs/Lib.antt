@@ -24,6 +24,6 @@ pub mod Says
 pub mod Call
 pub mod Rests
 -- What the building blocks speak of besides, on the way there.
-pub mod steps
+pub mod Steps
 -- What a theorem supposes.
 pub mod Theorems

@@ -9,9 +9,9 @@ use Rattle.format.specs.Provider.{Provider}
 use Rattle.format.specs.Lists.{lists}
 use Rattle.format.specs.Area.{rows, AREAS, none}
 use Rattle.format.specs.Answer.{moderate, with_room, counted, capped}
-use Rattle.format.specs.steps.Needs.{needs_all}
+use Rattle.format.specs.Steps.Needs.{needs_all}
 use Rattle.format.proofs.Theorems.Needed.{needed}
-use Rattle.format.specs.steps.Parts.{Few}
+use Rattle.format.specs.Steps.Parts.{Few}
 use Rattle.format.proofs.Theorems.Fits.{few-uncapped}
 use Rattle.format.specs.declared.CrimHeader.{CrimHeader}
 use Rattle.counts.specs.Short.{short}

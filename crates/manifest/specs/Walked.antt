@@ -11,7 +11,7 @@ use Rattle.format.specs.Definition.{step}
 use Rattle.format.specs.Area.{none}
 use Rattle.format.specs.Provider.{Provider}
 use Rattle.format.specs.Crim.{described_at}
-use Rattle.format.specs.steps.Needs.{needs_of, plus, needs_all, provider_read, providers_read}
+use Rattle.format.specs.Steps.Needs.{needs_of, plus, needs_all, provider_read, providers_read}
 use Rattle.format.specs.declared.Needed.{Needed}
 
 -- what the answer for a provider tells of its reading

@@ -6,7 +6,7 @@ ghost use Rattle.blob.specs.Reading.{run, refused, verdict};
 ghost use Rattle.format.specs.Answer as spec;
 ghost use Rattle.format.specs.Area.{none};
 ghost use Rattle.format.specs.Crim.{providers_of};
-ghost use Rattle.format.specs.steps.Needs as need;
+ghost use Rattle.format.specs.Steps.Needs as need;
 ghost use Rattle.areas.specs.Areas.{providers, providers_in};
 ghost use Rattle.manifest.specs.Read.{block_of, block_reading};
 

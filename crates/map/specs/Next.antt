@@ -11,7 +11,7 @@ use Rattle.format.specs.Area.{MAPS, ENTRIES, width}
 use Rattle.format.specs.Definition.{step}
 use Rattle.format.specs.Map.{Mapped, entry_at, map_read}
 use Rattle.format.specs.Answer.{capped}
-use Rattle.format.specs.steps.Needs.{total, entry_count}
+use Rattle.format.specs.Steps.Needs.{total, entry_count}
 use Rattle.format.proofs.Theorems.Counting as counting
 use Rattle.format.specs.Lists.{map_words, map_entry_words, map_list}
 use Rattle.format.specs.declared.Map.{Map}

@@ -8,7 +8,7 @@ ghost use Rattle.format.specs.Area.{MAPS, ENTRIES, width};
 ghost use Rattle.format.specs.Field.{VMAP_map_string};
 ghost use Rattle.format.specs.Region.{blob_end, until};
 ghost use Rattle.format.specs.Map.{value_map_at, other_map, map_at, maps_at, map_read};
-ghost use Rattle.format.specs.steps.Needs.{entry_count, maps_read};
+ghost use Rattle.format.specs.Steps.Needs.{entry_count, maps_read};
 ghost use Rattle.format.specs.Lists.{map_words, map_entry_words, map_list};
 ghost use Rattle.format.specs.Name as name;
 ghost use Rattle.format.specs.Name.{name_at};

@@ -14,7 +14,7 @@ use Rattle.format.specs.Definition.{guid_at, step}
 use Rattle.format.specs.Provider.{Table, Provider, Element, wevt_at, descriptor_at, element_at, elements_from}
 use Rattle.format.specs.Crim.{described_at}
 use Rattle.format.specs.Lists.{kept, unknowns, descriptor_words, unknown2_words, unknown_words}
-use Rattle.format.specs.steps.Parts.{Room, Stored, part, passed, behind, behind_all, table_parts}
+use Rattle.format.specs.Steps.Parts.{Room, Stored, part, passed, behind, behind_all, table_parts}
 use Rattle.format.proofs.Theorems.Grows.{behind_all-same}
 use Rattle.format.proofs.Theorems.Described.{Described, described}
 use Rattle.format.specs.declared.Guid.{Guid}

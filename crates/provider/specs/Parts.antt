@@ -20,7 +20,7 @@ use Rattle.format.specs.Definition.{guid_at, step}
 use Rattle.format.specs.Provider.{Element, wevt_at, wevt_read, descriptor_at, element_at, elements_from, provider_at}
 use Rattle.format.specs.Crim.{described_at}
 use Rattle.format.specs.Answer.{capped}
-use Rattle.format.specs.steps.Needs.{plus, provider_read}
+use Rattle.format.specs.Steps.Needs.{plus, provider_read}
 use Rattle.format.specs.declared.Guid.{Guid}
 use Rattle.format.specs.declared.Descriptor.{Descriptor}
 use Rattle.format.specs.declared.Wevt.{Wevt}

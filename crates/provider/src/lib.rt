@@ -6,7 +6,7 @@ ghost use Rattle.blob.specs.Reading.{run, many, verdict};
 ghost use Rattle.format.specs.Definition.{step};
 ghost use Rattle.format.specs.Provider as spec;
 ghost use Rattle.format.specs.Crim.{described_at};
-ghost use Rattle.format.specs.steps.Needs.{modest, plus, provider_read};
+ghost use Rattle.format.specs.Steps.Needs.{modest, plus, provider_read};
 ghost use Rattle.provider.specs.Wevt as wevt;
 ghost use Rattle.provider.specs.Parts.{with_own};
 

@@ -18,7 +18,7 @@ use Rattle.format.specs.Table.{TTBL}
 use Rattle.format.specs.Template.{Template, template_at, next, templates_at}
 use Rattle.format.specs.Area.{ITEMS, width}
 use Rattle.format.specs.Lists.{item_words, item_list}
-use Rattle.format.specs.steps.Needs.{total, item_count}
+use Rattle.format.specs.Steps.Needs.{total, item_count}
 use Rattle.format.proofs.Theorems.Ends.{region-bounds}
 use Rattle.format.proofs.Theorems.Until.{template_until, region-told, region-refused}
 use Rattle.format.specs.declared.EndRead.TheVariants as ends

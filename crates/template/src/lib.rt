@@ -12,7 +12,7 @@ ghost use Rattle.format.specs.Table.{TTBL};
 ghost use Rattle.format.specs.Template.{items_of, items_at, template_fields, template_at, next, templates_at};
 ghost use Rattle.format.specs.Item.{Item};
 ghost use Rattle.format.specs.Lists.{template_words, item_list};
-ghost use Rattle.format.specs.steps.Needs.{item_count, templates_read};
+ghost use Rattle.format.specs.Steps.Needs.{item_count, templates_read};
 ghost use Rattle.template.specs.Temp.{binxml_length, template_of};
 
 use blob::Verdict;

@@ -3,7 +3,7 @@ use mathlib.Core.Path.{refl, ap}
 use native.Mathlib.Omega.{arith}
 use borrow.Author.Rules.{rules}
 use Rattle.blob.specs.Reading.{verdict}
-use Rattle.format.specs.steps.Parts.{parts, passed_all}
+use Rattle.format.specs.Steps.Parts.{parts, passed_all}
 use Rattle.format.proofs.Theorems.Stored.{left-none}
 use Rattle.areas.specs.Walked.{next-provider, next-fine, provider-room, provider-left, none_left}
 use Rattle.areas.proofs.fill.Goals as goal

@@ -7,7 +7,7 @@ use Rattle.blob.specs.Reading.{run, many, verdict, values}
 use Rattle.format.specs.Area.{none}
 use Rattle.format.specs.Definition.{step}
 use Rattle.format.specs.Crim.{described_at}
-use Rattle.format.specs.steps.Parts.{parts, passed_all}
+use Rattle.format.specs.Steps.Parts.{parts, passed_all}
 use Rattle.format.proofs.Theorems.Stored.{Left}
 use Rattle.areas.specs.Areas.{providers_in}
 use Rattle.areas.proofs.fill.Given as goal

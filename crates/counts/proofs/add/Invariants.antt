@@ -3,7 +3,7 @@ use Prim.Native.Nat.{◌-◌, ◌≤◌}
 use mathlib.Core.Path.{◌≡◌}
 use lib.ListN.{length}
 use Rattle.format.specs.Area.{AREAS}
-use Rattle.format.specs.steps.Needs.{plus, modest}
+use Rattle.format.specs.Steps.Needs.{plus, modest}
 use Rattle.counts.specs.Short.{plus_from}
 use Rattle.counts.proofs.add.Given as goal
 

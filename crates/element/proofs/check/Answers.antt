@@ -11,7 +11,7 @@ use Rattle.format.specs.Table.{MAPS, TTBL}
 use Rattle.format.specs.Provider.{elements_from}
 use Rattle.format.specs.Lists.{kept}
 use Rattle.format.specs.Answer.{capped}
-use Rattle.format.specs.steps.Needs.{modest}
+use Rattle.format.specs.Steps.Needs.{modest}
 use Rattle.blob.proofs.Laws.{fine-done}
 use native.Mathlib.Nat.{zero-add}
 use Rattle.counts.specs.Short.{modest-set}

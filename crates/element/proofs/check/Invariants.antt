@@ -7,7 +7,7 @@ use Rattle.blob.specs.Reading.{run, verdict, values}
 use Rattle.format.specs.Area.{none}
 use Rattle.format.specs.Provider.{elements_from}
 use Rattle.format.specs.Lists.{kept}
-use Rattle.format.specs.steps.Needs.{modest}
+use Rattle.format.specs.Steps.Needs.{modest}
 use Rattle.element.specs.Places.{Standing}
 use Rattle.element.specs.Kinds.{kept_from}
 use Rattle.element.specs.Sums.{grown_all}

@@ -1,6 +1,6 @@
 -- By what was found of the table's end.
 use mathlib.Core.Path.{ap, sym, ◌∙◌}
-use Rattle.format.specs.steps.Needs.{table_read}
+use Rattle.format.specs.Steps.Needs.{table_read}
 use Rattle.element.specs.Checked.{events-refused, events-found}
 use Rattle.element.proofs.check_events.Goals as goal
 

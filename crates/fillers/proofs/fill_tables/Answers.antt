@@ -3,7 +3,7 @@ use Prim.Native.Nat.{◌≤◌}
 use mathlib.Core.Path.{refl}
 use native.Mathlib.Omega.{arith}
 use borrow.Author.Rules.{rules}
-use Rattle.format.specs.steps.Parts.{behind_all, table_parts}
+use Rattle.format.specs.Steps.Parts.{behind_all, table_parts}
 use Rattle.format.proofs.Theorems.Stored.{left-none}
 use Rattle.element.specs.Places.{kind-place}
 use Rattle.element.specs.Kinds.{kinds_from, kept-none}

@@ -5,7 +5,7 @@ use lib.ListN.{replicate}
 use Rattle.blob.specs.Reading.{run, values}
 use Rattle.format.specs.Provider.{elements_from}
 use Rattle.format.specs.Lists.{kept}
-use Rattle.format.specs.steps.Parts.{behind_all, table_parts}
+use Rattle.format.specs.Steps.Parts.{behind_all, table_parts}
 use Rattle.format.proofs.Theorems.Stored.{Left}
 use Rattle.element.specs.Places.{placed}
 use Rattle.element.specs.Kinds.{kept_from}

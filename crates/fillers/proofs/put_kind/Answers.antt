@@ -3,7 +3,7 @@ use mathlib.Core.Path.{sym, ◌∙◌, subst}
 use mathlib.Core.List.{List}
 use native.Mathlib.Omega.{arith}
 use Rattle.format.specs.Provider.{Table}
-use Rattle.format.specs.steps.Parts.{TablesRoom}
+use Rattle.format.specs.Steps.Parts.{TablesRoom}
 use Rattle.table.specs.Headers.{header-bytes}
 use Rattle.fillers.specs.Kinds.{somewhere, kept-only, kind-none}
 use Rattle.fillers.proofs.put_kind.Goals as goal

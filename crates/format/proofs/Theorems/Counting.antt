@@ -5,7 +5,7 @@ use Rattle.std.proofs.Common.{arith}
 use Rattle.blob.specs.Reading.{Reading, Outcome, done, refused, run, many}
 use Rattle.blob.proofs.Laws.{told_more}
 use Rattle.format.specs.Answer.{capped}
-use Rattle.format.specs.steps.Needs.{total, count_read}
+use Rattle.format.specs.Steps.Needs.{total, count_read}
 use Rattle.format.specs.declared.EntriesRead.{EntriesRead}
 use Rattle.format.specs.declared.EntriesRead.TheVariants as entries
 

@@ -11,8 +11,8 @@ use Rattle.format.specs.Map.{Mapped}
 use Rattle.format.specs.Provider.{Rows, Table, Provider}
 use Rattle.format.specs.Lists.{Entry, provider_words, descriptor_words, unknown2_words, definition_words, event_words, map_entry_words, template_words, item_words, unknown_words, kept, unknowns, Owned, owned_tables, owned_unknowns, after, table_entries, definitions_in, events_in, maps_in, templates_in, map_list, item_list, lists}
 use Rattle.format.specs.Answer.{counted, capped}
-use Rattle.format.specs.steps.Needs.{total, after_all, of_tables, entries_in, has, needs_all}
-use Rattle.format.specs.steps.Parts.{Few, Counted, behind, behind_all, parts, passed_all}
+use Rattle.format.specs.Steps.Needs.{total, after_all, of_tables, entries_in, has, needs_all}
+use Rattle.format.specs.Steps.Parts.{Few, Counted, behind, behind_all, parts, passed_all}
 use Rattle.format.proofs.Theorems.Grows.{set_same, behind_all-same, behind_all-length, passed_all-tables}
 use Rattle.format.proofs.Theorems.Listed.{owned_words, owned_then, itemized, lists-itemized, first, number, listed}
 use Rattle.format.proofs.Theorems.Needed.{total-length, after-all, counted_has, needed}

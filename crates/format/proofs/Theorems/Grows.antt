@@ -6,7 +6,7 @@ use Rattle.blob.specs.Laid.{flat}
 use Rattle.format.specs.Area.{TABLES, MAPS, ITEMS}
 use Rattle.format.specs.Provider.{Table, Provider}
 use Rattle.format.specs.Lists.{kept}
-use Rattle.format.specs.steps.Parts.{passed, behind, behind_all, passed_all}
+use Rattle.format.specs.Steps.Parts.{passed, behind, behind_all, passed_all}
 
 -- what holds of each of two holds of the one that is chosen
 pub choose-either : {A : Type 0} (t : Bool) (P : A → Type 0) {a b : A} → P a → P b → P (choose t a b)

@@ -18,8 +18,8 @@ use Rattle.format.specs.Lists.{Entry, kept, Owned, owned_tables, list_of, row_co
 use Rattle.format.specs.Answer.{own, too_small, lent_enough, with_room, reading, counted, answer, held, Allowed}
 use Rattle.format.specs.Lookup.{entries_of, word_of, counts_fit, select, position, positions, numbered, matches, by_offset, alike, once, every, tables_fit, tables_own, owned_by, keyed, guid_at_offset, guids_of, by_key}
 use Rattle.format.specs.Join.{those, the_first, events_of, templates_of, asked, guids_from, join}
-use Rattle.format.specs.steps.Needs.{of_tables}
-use Rattle.format.specs.steps.Parts.{behind_all}
+use Rattle.format.specs.Steps.Needs.{of_tables}
+use Rattle.format.specs.Steps.Parts.{behind_all}
 use Rattle.format.proofs.Theorems.Grows.{behind_all-grows}
 use Rattle.format.proofs.Theorems.Listed.{owned, owned_words, owned_then, itemized, lists-itemized, First}
 use Rattle.format.proofs.Theorems.Needed.{map_list_length, owned_words_length}

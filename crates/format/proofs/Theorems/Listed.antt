@@ -11,8 +11,8 @@ use Rattle.format.specs.Map.{Mapped}
 use Rattle.format.specs.Provider.{Rows, Table, Provider}
 use Rattle.format.specs.Lists.{Entry, provider_words, descriptor_words, unknown2_words, definition_words, event_words, map_entry_words, template_words, item_words, unknown_words, kept, unknowns, Owned, owned_tables, owned_unknowns, table_entries, definitions_in, events_in, maps_in, templates_in, map_list, item_list, lists}
 use Rattle.format.specs.Area.{PROVIDERS, DESCRIPTORS, UNKNOWN2, TABLES, DEFINITIONS, EVENTS, MAPS, ENTRIES, TEMPLATES, UNKNOWN, ITEMS, rows, place, none, of, more}
-use Rattle.format.specs.steps.Needs.{total, entry_count, of_tables, entries_in}
-use Rattle.format.specs.steps.Parts.{table_part, table_parts, behind, behind_all, part, passed, parts}
+use Rattle.format.specs.Steps.Needs.{total, entry_count, of_tables, entries_in}
+use Rattle.format.specs.Steps.Parts.{table_part, table_parts, behind, behind_all, part, passed, parts}
 use Rattle.format.proofs.Theorems.Grows.{behind_all-length}
 
 abbrev pub owned : ℕ → List Table → List Owned

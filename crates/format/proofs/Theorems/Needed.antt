@@ -13,7 +13,7 @@ use Rattle.format.specs.Map.{Mapped}
 use Rattle.format.specs.Provider.{Rows, definitions, events, maps, templates, Table, Provider}
 use Rattle.format.specs.Lists.{Entry, kept, unknowns, Owned, owned_tables, owned_unknowns, after, table_entries, definitions_in, events_in, maps_in, templates_in, map_list, item_list, lists}
 use Rattle.format.specs.Answer.{counted, capped}
-use Rattle.format.specs.steps.Needs.{total, after_all, of_tables, entries_in, items_in, has, needs_of, plus, modest, needs_all}
+use Rattle.format.specs.Steps.Needs.{total, after_all, of_tables, entries_in, items_in, has, needs_of, plus, modest, needs_all}
 use Rattle.format.proofs.Theorems.Listed.{owned_words, owned_then, all_inner, lists-itemized}
 
 -- how many entries each list has of some tables, with so many before; written out for each row

@@ -20,7 +20,7 @@ use Rattle.format.specs.Answer.{reading, counted, held}
 use Rattle.format.specs.Lookup.{word_of, select}
 use Rattle.format.specs.Join.{those, some, events_of, templates_of, joins, joined}
 use Rattle.format.specs.Owner.{member, firsts, ranges, each_owned, finds, found_from, events_owned, found_events}
-use Rattle.format.specs.steps.Needs.{of_tables}
+use Rattle.format.specs.Steps.Needs.{of_tables}
 use Rattle.format.proofs.Theorems.Listed.{owned, owned_words, owned_then}
 use Rattle.format.proofs.Theorems.Needed.{owned_words_length}
 use Rattle.format.proofs.Theorems.Known.{All, Known, Sound, owned-known, known}

@@ -38,7 +38,7 @@ pub record Enums : Type 1 where
   pub wevt : Exactly wevt_told format.Provider.wevt_read
   pub end : {A : Type 0} (told : A → ℕ) → Keeps end_told told (format.Region.end_read told)
   pub map : Keeps map_told (λ m. m.map) format.Map.map_read
-  pub counted : {A : Type 0} (count : A → ℕ) → Keeps entries_told (λ a. capped (count a)) (format.steps.Needs.count_read count)
+  pub counted : {A : Type 0} (count : A → ℕ) → Keeps entries_told (λ a. capped (count a)) (format.Steps.Needs.count_read count)
   pub guids : Keeps guids_told (λ gs. length gs) guids_found
 
 pub enums : Enums

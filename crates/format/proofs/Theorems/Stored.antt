@@ -4,7 +4,7 @@ use Rattle.std.proofs.Common.{ap, ap₂, sym, ◌∙◌, append_assoc, arith, le
 use borrow.Rule.Slice.PartMut.{mid_of, put_mid}
 use Rattle.blob.specs.Laid.{laid, laid_more, laid-area, length-laid}
 use Rattle.format.specs.Provider.{Table}
-use Rattle.format.specs.steps.Parts.{Counted, Room, Stored, behind, behind_all, table_part, table_parts}
+use Rattle.format.specs.Steps.Parts.{Counted, Room, Stored, behind, behind_all, table_part, table_parts}
 use Rattle.format.proofs.Theorems.Grows.{behind_all-length, behind_all-grows}
 
 -- of some words for an area, others are left, from a place on, and behind them all will be written that shall be

@@ -1,7 +1,7 @@
 -- The invariant: what is left decides. The answer for the providers that are left, with the needs so far, is that for all.
 use mathlib.Core.Path.{refl, ap, sym, ◌∙◌, subst}
 use native.Mathlib.Omega.{arith}
-use Rattle.format.specs.steps.Needs.{modest, needs_all, providers_read}
+use Rattle.format.specs.Steps.Needs.{modest, needs_all, providers_read}
 use Rattle.format.proofs.Theorems.Needed.{plus-modest}
 use Rattle.areas.specs.Walked.{none_left}
 use Rattle.manifest.specs.Walked.{is_needs, is_refused, needs_more, needs_stop}

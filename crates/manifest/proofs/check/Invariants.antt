@@ -6,7 +6,7 @@ use Rattle.blob.specs.Reading.{run, many}
 use Rattle.format.specs.Area.{none}
 use Rattle.format.specs.Definition.{step}
 use Rattle.format.specs.Crim.{described_at}
-use Rattle.format.specs.steps.Needs.{modest, providers_read}
+use Rattle.format.specs.Steps.Needs.{modest, providers_read}
 use Rattle.areas.specs.Areas.{providers}
 use Rattle.manifest.proofs.check.Given as goal
 

@@ -6,7 +6,7 @@ use lib.ListN.{length}
 use Rattle.blob.specs.declared.Refusal.{Refusal}
 use Rattle.blob.specs.declared.Verdict.TheVariants as verdicts
 use Rattle.format.specs.Area.{none}
-use Rattle.format.specs.steps.Needs.{providers_read}
+use Rattle.format.specs.Steps.Needs.{providers_read}
 use Rattle.manifest.specs.Read.{array-cut, array_whole}
 use Rattle.manifest.proofs.check_block.Goals as goal
 

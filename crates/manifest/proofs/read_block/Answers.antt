@@ -4,7 +4,7 @@ use Rattle.blob.specs.Reading.{run, verdict, values}
 use Rattle.format.specs.Area.{none}
 use Rattle.format.specs.Answer.{answer, held}
 use Rattle.format.specs.Crim.{providers_of}
-use Rattle.format.specs.steps.Needs.{needs_all}
+use Rattle.format.specs.Steps.Needs.{needs_all}
 use Rattle.manifest.specs.Read.{array-done, reading-refused}
 use Rattle.manifest.specs.Walked.{is_providers, no-providers}
 use Rattle.manifest.proofs.read_block.Goals as goal

@@ -2,7 +2,7 @@
 use mathlib.Core.Path.{ap, sym, ◌∙◌}
 use native.Mathlib.Omega.{arith}
 use Rattle.format.specs.declared.EntriesRead.TheVariants as maps
-use Rattle.format.specs.steps.Needs.{maps_read}
+use Rattle.format.specs.Steps.Needs.{maps_read}
 use Rattle.format.proofs.Theorems.Ends.{region-bounds}
 use Rattle.map.specs.Listed.{maps-refused, maps-cut, maps-listed}
 use borrow.Author.Rules.{rules}

@@ -3,7 +3,7 @@ use Prim.Native.Nat.{◌+◌, ◌*◌, ◌≤◌}
 use mathlib.Core.Path.{◌≡◌}
 use lib.ListN.{length}
 use Rattle.blob.specs.Reading.{run}
-use Rattle.format.specs.steps.Needs.{maps_read}
+use Rattle.format.specs.Steps.Needs.{maps_read}
 use Rattle.map.specs.Listed.{listed}
 use Rattle.map.specs.Next.{unread, counted_from}
 use Rattle.map.proofs.counted.Given as goal

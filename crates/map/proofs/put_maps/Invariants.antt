@@ -6,7 +6,7 @@ use Rattle.blob.specs.declared.Verdict.TheVariants as verdicts
 use Rattle.blob.specs.Laid.{laid}
 use Rattle.blob.specs.Reading.{run, verdict, values}
 use Rattle.format.specs.Area.{MAPS, width}
-use Rattle.format.specs.steps.Needs.{entry_count}
+use Rattle.format.specs.Steps.Needs.{entry_count}
 use Rattle.map.specs.Listed.{listed}
 use Rattle.map.specs.Next.{unread, maps_words}
 use Rattle.map.proofs.put_maps.Given as goal

@@ -1,7 +1,7 @@
 -- Way by way, as Parts has them.
 use mathlib.Core.Path.{ap, sym, ◌∙◌}
 use Rattle.blob.specs.declared.Verdict.TheVariants as verdicts
-use Rattle.format.specs.steps.Needs.{provider_read}
+use Rattle.format.specs.Steps.Needs.{provider_read}
 use Rattle.provider.specs.Parts.{had_room, wevt_refused, array-refused, descriptors-refused, words-refused, elements-refused, provider-found}
 use Rattle.provider.proofs.check.Goals as goal
 

@@ -1,7 +1,7 @@
 -- What the region's end decides (Templates), and then the TEMPs until it.
 use mathlib.Core.Path.{ap, sym, ◌∙◌}
 use native.Mathlib.Omega.{arith}
-use Rattle.format.specs.steps.Needs.{templates_read}
+use Rattle.format.specs.Steps.Needs.{templates_read}
 use Rattle.format.proofs.Theorems.Ends.{region-bounds}
 use Rattle.template.specs.Templates.{templates-told, templates-refused}
 use Rattle.template.proofs.check.Goals as goal

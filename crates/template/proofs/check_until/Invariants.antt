@@ -5,7 +5,7 @@ use lib.ListN.{length}
 use Rattle.blob.specs.Reading.{run, many}
 use Rattle.format.specs.Region.{until}
 use Rattle.format.specs.Template.{template_at, next}
-use Rattle.format.specs.steps.Needs.{templates_read}
+use Rattle.format.specs.Steps.Needs.{templates_read}
 use Rattle.format.proofs.Theorems.Counting.{counted_from}
 use Rattle.template.specs.Templates.{turns}
 use Rattle.template.proofs.check_until.Given as goal

@@ -11,7 +11,7 @@ use Rattle.format.specs.Area.{ITEMS, width}
 use Rattle.format.specs.Region.{until}
 use Rattle.format.specs.Template.{template_at, next}
 use Rattle.format.specs.Lists.{item_list}
-use Rattle.format.specs.steps.Needs.{total, item_count}
+use Rattle.format.specs.Steps.Needs.{total, item_count}
 use Rattle.template.specs.Templates.{first_fine, next-items, next-words}
 use Rattle.template.proofs.fill_items_until.Goals as goal
 

@@ -9,7 +9,7 @@ use Rattle.format.specs.Area.{ITEMS, width}
 use Rattle.format.specs.Region.{until}
 use Rattle.format.specs.Template.{template_at, next}
 use Rattle.format.specs.Lists.{item_list}
-use Rattle.format.specs.steps.Needs.{item_count}
+use Rattle.format.specs.Steps.Needs.{item_count}
 use Rattle.template.proofs.fill_items_until.Given as goal
 
 abbrev pub invariant-loop-left : goal.invariant-loop-left

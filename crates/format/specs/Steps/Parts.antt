@@ -6,7 +6,7 @@ use Rattle.blob.specs.Laid.{flat, laid}
 use Rattle.format.specs.Area.{PROVIDERS, DESCRIPTORS, UNKNOWN2, TABLES, DEFINITIONS, EVENTS, MAPS, ENTRIES, TEMPLATES, UNKNOWN, ITEMS, rows, of, more}
 use Rattle.format.specs.Provider.{Table, Provider}
 use Rattle.format.specs.Lists.{provider_words, descriptor_words, unknown2_words, table_words, definition_words, event_words, map_list, map_entry_words, template_words, item_list, unknown_words, kept, unknowns, after, definitions_in, events_in, maps_in, templates_in}
-use Rattle.format.specs.steps.Needs.{entry_count}
+use Rattle.format.specs.Steps.Needs.{entry_count}
 
 -- no number is more than a list can have entries
 abbrev pub Few : List ℕ → Type 0
