@@ -1,15 +1,15 @@
 -- Laws of a run, each stated once: of a sequence, of a number, of a loop that checks and of one that fills.
 use Prim.Native.Nat.{ℕ, zero, suc, ◌+◌, ◌-◌, ◌*◌, ◌≤◌, ◌<◌}
-use Rattle.std.specs.Prelude.{◌≡◌, List, [], ◌∷◌, ◌++◌, Bool, true, false, ◌&&◌, get_or, leb}
+use Rattle.std.specs.Prelude.{◌≡◌, List, [], ◌∷◌, ◌++◌, Bool, true, false, ◌&&◌, get_or, leb, Result, Ok, Err, IsErrAnd}
 use Rattle.std.proofs.Math.Path.{refl, ap, sym}
 use Rattle.std.proofs.Common.{◌∙◌, mul-zero, mul-suc, length-append, le-leb, leb-true}
 use native.Mathlib.Omega.{arith}
 use Rattle.std.proofs.Math.ListN.{length}
 use Rattle.std.proofs.lemmas.Bool.{lt-leb}
+use Rattle.std.proofs.lemmas.Result.{err_from_is_err_and}
 use Rattle.blob.specs.Le.{le}
 use Rattle.blob.specs.Laid.{laid, laid_more, flat}
 use Rattle.blob.specs.declared.Refusal.{Refusal}
-use Rattle.blob.specs.declared.Verdict.TheVariants as verdicts
 use Rattle.blob.specs.Reading.{Fault, Reading, got, stop, room, byte, Outcome, done, refused, choose, demand, run, ◌>>=◌, number, many, each, then, answer, verdict, values}
 
 -- a refusal is never a value, and two values are equal where their outcomes are
@@ -27,19 +27,23 @@ module _ {A R : Type 0} (f : A → R) (g : Refusal → R) (o : Outcome A) where
   pub answer-refused : (q r : Refusal) → q ≡ r → o ≡ refused r → g q ≡ answer f g o
   answer-refused q r e h = ap g e ∙ ap (answer f g) (sym h)
 
--- a refusal is no verdict Fine, and a list that is fine is its values
-pub not_fine : (r : Refusal) → verdicts.Refused r ≡ verdicts.Fine → ⊥
+-- an error is no value, and a list that is fine is its values
+pub not_fine : {A : Type 0} {a : A} (r : Refusal) → ◌≡◌ {A = Result A Refusal} (Err r) (Ok a) → ⊥
 not_fine r h = let z : ◌≡◌ {A = ℕ} 0 1 = cc in omega arith
 
-pub fine-done : {A : Type 0} (o : Outcome (List A)) → verdict o ≡ verdicts.Fine → o ≡ done (values o)
+-- the refusal that a `?` hands on is the one that was answered
+pub handed_on : {T : Type 0} {r x : Result T Refusal} {q : Refusal} → IsErrAnd r (λ e. e ≡ q) → Err q ≡ x → r ≡ x
+handed_on {r = r} h e = let p = err_from_is_err_and r h in p.1 ∙ ap Err p.2 ∙ e
+
+pub fine-done : {A : Type 0} (o : Outcome (List A)) → verdict o ≡ Ok tt → o ≡ done (values o)
 fine-done (done vs) v = refl
 fine-done (refused r) v = absurd (not_fine r v)
 
-pub fine-value : {A : Type 0} (o : Outcome A) → verdict o ≡ verdicts.Fine → (a : A) × (o ≡ done a)
+pub fine-value : {A : Type 0} (o : Outcome A) → verdict o ≡ Ok tt → (a : A) × (o ≡ done a)
 fine-value (done a) v = (a, refl)
 fine-value (refused r) v = absurd (not_fine r v)
 
-pub refused-value : {A : Type 0} (o : Outcome A) (r : Refusal) → verdicts.Refused r ≡ verdict o → o ≡ refused r
+pub refused-value : {A : Type 0} (o : Outcome A) (r : Refusal) → Err r ≡ verdict o → o ≡ refused r
 refused-value (done a) r h = absurd (not_fine r h)
 refused-value (refused q) r h = cc
 
@@ -106,8 +110,8 @@ unfolding then
 run-stopped p f s r e = run_bind p f s ∙ ap (λ o. then o (λ n. run (f n) s)) e
 
 -- where all of a sequence is fine, its first is, and what goes by it
-pub bind_fine : {A B : Type 0} (p : Reading A) (f : A → Reading B) (s : List ℕ) → verdict (run (p >>= f) s) ≡ verdicts.Fine
-    → (a : A) × (run p s ≡ done a) × (verdict (run (f a) s) ≡ verdicts.Fine)
+pub bind_fine : {A B : Type 0} (p : Reading A) (f : A → Reading B) (s : List ℕ) → verdict (run (p >>= f) s) ≡ Ok tt
+    → (a : A) × (run p s ≡ done a) × (verdict (run (f a) s) ≡ Ok tt)
 bind_fine p f s v =
     let b = fine-value (run (p >>= f) s) v in
     let t = then-done (run p s) (λ a. run (f a) s) b.0 (sym (run_bind p f s) ∙ b.1) in
@@ -194,30 +198,35 @@ module _ {S A : Type 0} (p : S → Reading A) (next : A → S → S) where
       → verdict (run (many p next left at) s) ≡ verdict (run (many p next (left - 1) (next a at)) s)
   many_more left at s a = told_more verdict verdict left at s a (λ vs. refl) (λ r. refl)
 
+  -- the same of the i-th of n, which is read at its own place
+  pub many_next : (n i : ℕ) (at at' : S) (s : List ℕ) (a : A) → i < n → run (p at) s ≡ done a → next a at ≡ at'
+      → verdict (run (many p next (n - i) at) s) ≡ verdict (run (many p next (n - (i + 1)) at') s)
+  many_next n i at at' s a h e g = let left : n - i - 1 ≡ n - (i + 1) = omega arith in many_more (n - i) at s a (omega arith) e ∙ rw (left, g)
+
   pub many-stop : (left : ℕ) (at : S) (s : List ℕ) (r : Refusal) → 0 < left → run (p at) s ≡ refused r
-      → verdict (run (many p next left at) s) ≡ verdicts.Refused r
+      → verdict (run (many p next left at) s) ≡ Err r
   many-stop left at s r h e = ap verdict (many-refused left at s r h e)
 
   -- where all that are left are fine, the next one is
-  pub many-first : (left : ℕ) (at : S) (s : List ℕ) → 0 < left → verdict (run (many p next left at) s) ≡ verdicts.Fine → verdict (run (p at) s) ≡ verdicts.Fine
+  pub many-first : (left : ℕ) (at : S) (s : List ℕ) → 0 < left → verdict (run (many p next left at) s) ≡ Ok tt → verdict (run (p at) s) ≡ Ok tt
   many-first left at s h v = go (run (p at) s) refl
     where
-      go : (o : Outcome A) → run (p at) s ≡ o → verdict o ≡ verdicts.Fine
+      go : (o : Outcome A) → run (p at) s ≡ o → verdict o ≡ Ok tt
       go (done a) e = refl
       go (refused r) e = absurd (not_fine r (sym (many-stop left at s r h e) ∙ v))
 
-  pub many-none : (left : ℕ) (at : S) (s : List ℕ) → left ≤ 0 → verdict (run (many p next left at) s) ≡ verdicts.Fine
+  pub many-none : (left : ℕ) (at : S) (s : List ℕ) → left ≤ 0 → verdict (run (many p next left at) s) ≡ Ok tt
   many-none left at s h = ap verdict (many-empty left at s h)
 
   -- the values of the whole are the one that was read and those of the rest
-  pub values-more : (left : ℕ) (at : S) (s : List ℕ) (a : A) → 0 < left → run (p at) s ≡ done a → verdict (run (many p next left at) s) ≡ verdicts.Fine
+  pub values-more : (left : ℕ) (at : S) (s : List ℕ) (a : A) → 0 < left → run (p at) s ≡ done a → verdict (run (many p next left at) s) ≡ Ok tt
       → values (run (many p next left at) s) ≡ a ∷ values (run (many p next (left - 1) (next a at)) s)
   unfolding then
   values-more left at s a h e v =
       ap (λ n. values (run (many p next n at) s)) (more h) ∙ ap values (many-suc (left - 1) at s a e)
       ∙ go (run (many p next (left - 1) (next a at)) s) (sym (many_more left at s a h e) ∙ v)
     where
-      go : (o : Outcome (List A)) → verdict o ≡ verdicts.Fine → values (then o (λ vs. done (a ∷ vs))) ≡ a ∷ values o
+      go : (o : Outcome (List A)) → verdict o ≡ Ok tt → values (then o (λ vs. done (a ∷ vs))) ≡ a ∷ values o
       go (done vs) w = refl
       go (refused r) w = absurd (not_fine r w)
 
@@ -226,7 +235,7 @@ module _ {S A : Type 0} (p : S → Reading A) (next : A → S → S) where
 
   -- A filler whose words go by a running state: W gives the words of the values from a state on, W' from the next state on.
   pub fill_more : (W W' : List A → List ℕ) (ws s area area' : List ℕ) (left : ℕ) (at : S) (to : ℕ) (a : A) → ((vs : List A) → W (a ∷ vs) ≡ ws ++ W' vs)
-      → area' ≡ laid area to ws → 0 < left → run (p at) s ≡ done a → verdict (run (many p next left at) s) ≡ verdicts.Fine
+      → area' ≡ laid area to ws → 0 < left → run (p at) s ≡ done a → verdict (run (many p next left at) s) ≡ Ok tt
       → laid area to (W (values (run (many p next left at) s))) ≡ laid area' (to + length ws) (W' (values (run (many p next (left - 1) (next a at)) s)))
   fill_more W W' ws s area area' left at to a f ea h e v =
       ap (λ vs. laid area to (W vs)) (values-more left at s a h e v)
@@ -235,7 +244,7 @@ module _ {S A : Type 0} (p : S → Reading A) (next : A → S → S) where
       ∙ ap (λ l. laid l (to + length ws) (W' (values (run (many p next (left - 1) (next a at)) s)))) (sym ea)
 
   -- where no single one is ever refused, all of them are fine
-  pub many-fine : (s : List ℕ) → ((at : S) → (a : A) × (run (p at) s ≡ done a)) → (n : ℕ) (at : S) → verdict (run (many p next n at) s) ≡ verdicts.Fine
+  pub many-fine : (s : List ℕ) → ((at : S) → (a : A) × (run (p at) s ≡ done a)) → (n : ℕ) (at : S) → verdict (run (many p next n at) s) ≡ Ok tt
   unfolding many run
   many-fine s h zero at = refl
   many-fine s h (suc n) at = ap verdict (many-suc n at s (h at).0 (h at).1) ∙ same_verdict (h at).0 _ ∙ many-fine s h n (next (h at).0 at)
@@ -250,7 +259,7 @@ module _ {S A : Type 0} (p : S → Reading A) (next : A → S → S) where
     rest s area left at to = laid area to (flat words (values (run (many p next left at) s)))
 
     pub rest_more : (s area area' : List ℕ) (left : ℕ) (at : S) (to : ℕ) (a : A) → area' ≡ laid area to (words a) → 0 < left → run (p at) s ≡ done a
-        → verdict (run (many p next left at) s) ≡ verdicts.Fine
+        → verdict (run (many p next left at) s) ≡ Ok tt
         → rest s area left at to ≡ rest s area' (left - 1) (next a at) (to + length (words a))
     unfolding flat
     rest_more s area area' left at to a = fill_more (flat words) (flat words) (words a) s area area' left at to a (λ vs. refl)
@@ -260,22 +269,22 @@ module _ {S A : Type 0} (p : S → Reading A) (next : A → S → S) where
     rest-none s area left at to = fill_none (flat words) s area left at to refl
 
   -- one value more than the rest has
-  one_more : (a : A) (o : Outcome (List A)) (n : ℕ) → verdict o ≡ verdicts.Fine → length (values o) ≡ n → length (values (then o (λ vs. done (a ∷ vs)))) ≡ suc n
+  one_more : (a : A) (o : Outcome (List A)) (n : ℕ) → verdict o ≡ Ok tt → length (values o) ≡ n → length (values (then o (λ vs. done (a ∷ vs)))) ≡ suc n
   unfolding then
   one_more a (done vs) n v h = ap suc h
   one_more a (refused r) n v h = absurd (not_fine r v)
 
   -- as many values as were asked for
-  pub many-length : (n : ℕ) (at : S) (s : List ℕ) → verdict (run (many p next n at) s) ≡ verdicts.Fine → length (values (run (many p next n at) s)) ≡ n
+  pub many-length : (n : ℕ) (at : S) (s : List ℕ) → verdict (run (many p next n at) s) ≡ Ok tt → length (values (run (many p next n at) s)) ≡ n
   unfolding many run
   many-length zero at s v = refl
   many-length (suc n) at s v = go (λ at'. many-length n at' s) (run (p at) s) refl
     where
-      go : ((at' : S) → verdict (run (many p next n at') s) ≡ verdicts.Fine → length (values (run (many p next n at') s)) ≡ n)
+      go : ((at' : S) → verdict (run (many p next n at') s) ≡ Ok tt → length (values (run (many p next n at') s)) ≡ n)
           → (o : Outcome A) → run (p at) s ≡ o → length (values (run (many p next (suc n) at) s)) ≡ suc n
       go ih (refused r) e = absurd (not_fine r (sym (many-stop (suc n) at s r (omega arith) e) ∙ v))
       go ih (done a) e =
-          let w : verdict (run (many p next n (next a at)) s) ≡ verdicts.Fine = sym (ap verdict (many-suc n at s a e) ∙ same_verdict a _) ∙ v in
+          let w : verdict (run (many p next n (next a at)) s) ≡ Ok tt = sym (ap verdict (many-suc n at s a e) ∙ same_verdict a _) ∙ v in
           ap (λ o. length (values o)) (many-suc n at s a e) ∙ one_more a _ n w (ih (next a at) w)
 
   pub many-count : (n : ℕ) (at : S) (s : List ℕ) (vs : List A) → run (many p next n at) s ≡ done vs → length vs ≡ n

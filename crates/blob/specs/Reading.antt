@@ -1,10 +1,8 @@
 -- The language in which the format is defined. A reading asks for room in a blob and for single bytes of it,
 -- and ends with a value or a refusal. It learns the blob's length only by asking for room, and in a refusal:
 -- that is why a longer blob is read the same (Longer).
-use Rattle.std.specs.Prelude.{ℕ, zero, suc, ◌+◌, ◌*◌, List, [], ◌∷◌, Bool, true, false, length, get_or, leb}
+use Rattle.std.specs.Prelude.{ℕ, zero, suc, ◌+◌, ◌*◌, List, [], ◌∷◌, Bool, true, false, length, get_or, leb, Ok, Err, Result}
 use Rattle.blob.specs.declared.Refusal.{Refusal}
-use Rattle.blob.specs.declared.Verdict.{Verdict}
-use Rattle.blob.specs.declared.Verdict.TheVariants as verdicts
 
 -- what a refusal tells, which may name the blob's length. That its code is not 0, which is for what is accepted, is proved of each
 -- reading of the definition (Coded)
@@ -82,8 +80,12 @@ abbrev pub answer : {A R : Type 0} → (A → R) → (Refusal → R) → Outcome
 answer f g (done a) = f a
 answer f g (refused r) = g r
 
-abbrev pub verdict : {A : Type 0} → Outcome A → Verdict
-verdict o = answer (λ a. verdicts.Fine) verdicts.Refused o
+-- what a function answers that answers a refusal as an error, from what it answers for a value; and one that only tests
+abbrev pub as_result : {A R : Type 0} → (A → R) → Outcome A → Result R Refusal
+as_result f o = answer (λ a. Ok (f a)) Err o
+
+abbrev pub verdict : {A : Type 0} → Outcome A → Result (Unit {0}) Refusal
+verdict o = as_result (λ a. tt) o
 
 -- the values of an accepted run
 abbrev pub values : {A : Type 0} → Outcome (List A) → List A

@@ -7,8 +7,7 @@ ghost use Rattle.format.specs.Refuse as refuse;
 ghost use Rattle.format.specs.Region as region;
 ghost use Rattle.format.specs.Answer.{own, capped};
 
-use blob::{Refusal, Verdict};
-use format::EndRead;
+use blob::Refusal;
 
 // So many bytes are needed from a place on, before an end.
 pub fn truncated(end: usize, field: u8, at: usize, needed: usize) -> Refusal
@@ -115,35 +114,34 @@ fn has_room(b: &[u8], at: usize, needed: usize) -> bool
 }
 
 // Whether so many bytes from a place on are wholly in the blob.
-pub fn whole(b: &[u8], field: u8, at: usize, needed: usize) -> Verdict
+pub fn whole(b: &[u8], field: u8, at: usize, needed: usize) -> Result<(), Refusal>
     ensures { result ≡ verdict (run (refuse.whole field at needed (got (tt {0}))) b.now) }
 {
     if has_room(b, at, needed) {
-        return Verdict::Fine;
+        return Ok(());
     }
-    Verdict::Refused(truncated(b.len(), field, at, needed))
+    Err(truncated(b.len(), field, at, needed))
 }
 
 // Where a structure ends whose size, of at least so many bytes, is not 0.
-pub fn bounded(b: &[u8], field: u8, at: usize, size: u32, least: u32) -> EndRead
+pub fn bounded(b: &[u8], field: u8, at: usize, size: u32, least: u32) -> Result<usize, Refusal>
     ensures { result ≡ region.end_read (λ e. e) (run (region.bounded field at size least) b.now) }
 {
     let bytes = size as usize;
     if least <= size {
         if has_room(b, at, bytes) {
-            let end = at + bytes;
-            return EndRead::End(end);
+            return Ok(at + bytes);
         }
     }
-    EndRead::Refused(size_out(field, at, size))
+    Err(size_out(field, at, size))
 }
 
 // Where a structure's region ends: at the blob's end where its size is 0.
-pub fn region_end(b: &[u8], field: u8, at: usize, size: u32, least: u32) -> EndRead
+pub fn region_end(b: &[u8], field: u8, at: usize, size: u32, least: u32) -> Result<usize, Refusal>
     ensures { result ≡ region.end_read (region.end (length b.now)) (run (region.region_at field at size least) b.now) }
 {
     if size == 0 {
-        return EndRead::End(b.len());
+        return Ok(b.len());
     }
     bounded(b, field, at, size, least)
 }

@@ -1,24 +1,23 @@
 -- What lists that need so much get of so much: 9 for the first that is too small; and the sums over the rows, row by row.
 use Prim.{tt}
-use Rattle.std.specs.Prelude.{ℕ, zero, suc, ◌+◌, ◌*◌, ◌≤◌, ◌<◌, ◌≡◌, refl, true, false, ◌&&◌, List, [], ◌∷◌, map, leb, ltb, eqb, length, get_or, drop, take, set}
+use Rattle.std.specs.Prelude.{ℕ, zero, suc, ◌+◌, ◌*◌, ◌≤◌, ◌<◌, ◌≡◌, refl, true, false, ◌&&◌, List, [], ◌∷◌, map, leb, ltb, eqb, length, get_or, drop, take, set, Ok, Err, Result}
 use Rattle.std.proofs.Common.{mul-le-mul, suc-add, add_assoc, add-zero, arith, ap, sym, ◌∙◌, drop_of_length-le, le-leb, leb-true, ltb-true, eqb-true, ne_eqb}
 use Rattle.std.proofs.lemmas.Bool.{lt-leb}
+use Rattle.blob.specs.declared.Refusal.{Refusal}
 use Rattle.blob.specs.Places.{Each}
 use Rattle.blob.proofs.Laws.{passes}
 use Rattle.blob.specs.Reading.{choose}
-use Rattle.blob.specs.declared.Verdict.{Verdict}
-use Rattle.blob.specs.declared.Verdict.TheVariants as verdicts
 use Rattle.format.specs.Area.{Row, DEFINITIONS, rows, AREAS, WIDEST, place}
 use Rattle.format.specs.Answer.{too_small, capped, moderate, areas}
 use Rattle.format.specs.Steps.Needs.{plus, modest}
 use Rattle.format.specs.Table as kind
 use Rattle.format.specs.Table.{EVNT, TTBL, kind_list}
 
-unfoldable pub short : List Row → List ℕ → List ℕ → Verdict
-short [] cs ks = verdicts.Fine
-short (r ∷ rs) [] ks = verdicts.Fine
-short (r ∷ rs) (c ∷ cs) [] = verdicts.Fine
-short (r ∷ rs) (c ∷ cs) (k ∷ ks) = choose (leb k c) (short rs cs ks) (verdicts.Refused (too_small r.number c))
+unfoldable pub short : List Row → List ℕ → List ℕ → Result (Unit {0}) Refusal
+short [] cs ks = Ok tt
+short (r ∷ rs) [] ks = Ok tt
+short (r ∷ rs) (c ∷ cs) [] = Ok tt
+short (r ∷ rs) (c ∷ cs) (k ∷ ks) = choose (leb k c) (short rs cs ks) (Err (too_small r.number c))
 
 abbrev pub numbers : List ℕ
 numbers = map (λ r. r.number) rows
@@ -59,7 +58,7 @@ other_row (suc k) h g e m t =
 pub short-step : (rs : List Row) (cs ks : List ℕ) (i : ℕ) → i < length rs → i < length cs → i < length ks
     → short (drop i rs) (drop i cs) (drop i ks)
     ≡ choose (leb (get_or ks i 0) (get_or cs i 0)) (short (drop (i + 1) rs) (drop (i + 1) cs) (drop (i + 1) ks))
-    (verdicts.Refused (too_small (get_or (map (λ r. r.number) rs) i 0) (get_or cs i 0)))
+    (Err (too_small (get_or (map (λ r. r.number) rs) i 0) (get_or cs i 0)))
 unfolding short
 short-step [] cs ks i h g j = absurd (omega arith)
 short-step (r ∷ rs) [] ks i h g j = absurd (omega arith)
@@ -127,10 +126,10 @@ module _ (cs : List ℕ) (cs-rows : length cs ≡ AREAS) (i : ℕ) where
         → short (drop i rows) (drop i cs) (drop i ks) ≡ short (drop (i + 1) rows) (drop (i + 1) cs) (drop (i + 1) ks)
     room-more h g = short-step rows cs ks i (omega arith) (omega arith) (omega arith) ∙ rw (le-leb _ _ g)
 
-    pub room-stop : i < AREAS → get_or cs i 0 < get_or ks i 0 → short (drop i rows) (drop i cs) (drop i ks) ≡ verdicts.Refused (too_small (get_or numbers i 0) (get_or cs i 0))
+    pub room-stop : i < AREAS → get_or cs i 0 < get_or ks i 0 → short (drop i rows) (drop i cs) (drop i ks) ≡ Err (too_small (get_or numbers i 0) (get_or cs i 0))
     room-stop h g = short-step rows cs ks i (omega arith) (omega arith) (omega arith) ∙ rw (lt-leb _ _ g)
 
-    pub room-end : AREAS ≤ i → short (drop i rows) (drop i cs) (drop i ks) ≡ verdicts.Fine
+    pub room-end : AREAS ≤ i → short (drop i rows) (drop i cs) (drop i ks) ≡ Ok tt
     unfolding short
     room-end h = rw (drop_of_length-le rows {i = i} (omega arith))
 

@@ -9,8 +9,7 @@ ghost use Rattle.format.specs.Steps.Needs as needs;
 ghost use Rattle.format.specs.Table.{kind_list};
 ghost use Rattle.counts.specs.Short.{widths, numbers, short};
 
-use blob::{Refusal, Verdict};
-use format::Needed;
+use blob::Refusal;
 use format::kind::{EVNT, MAPS, TTBL};
 use format::list::{AREAS, MOST, NUMBERS, WORDS, row};
 
@@ -24,16 +23,6 @@ pub fn row_of(kind: u32) -> usize
         MAPS => row::MAPS,
         TTBL => row::TEMPLATES,
         _ => row::DEFINITIONS,
-    }
-}
-
-// What a refusal says of the needs: that there are none.
-pub fn refused(r: Refusal) -> Needed
-    ensures { result ≡ record { verdict = Verdict.Refused r; counts = area.none } }
-{
-    Needed {
-        verdict: Verdict::Refused(r),
-        counts: [0; AREAS],
     }
 }
 
@@ -116,13 +105,13 @@ pub fn area_at(c: [u32; AREAS], row: usize) -> usize
 }
 
 // Whether each list has room for what it needs; else 9, for the lowest-numbered list that has not.
-pub fn room(c: [u32; AREAS], needs: [u32; AREAS]) -> Verdict
+pub fn room(c: [u32; AREAS], needs: [u32; AREAS]) -> Result<(), Refusal>
     ensures { result ≡ short area.rows c needs }
 {
     let mut i = 0;
     while i < AREAS {
         if c[i] < needs[i] {
-            return Verdict::Refused(Refusal {
+            return Err(Refusal {
                 code: 9,
                 field: 0,
                 place: 0,
@@ -132,5 +121,5 @@ pub fn room(c: [u32; AREAS], needs: [u32; AREAS]) -> Verdict
         }
         i += 1;
     }
-    Verdict::Fine
+    Ok(())
 }

@@ -1,5 +1,5 @@
 -- What a reading of a definition's record finds, by its kind, and one of a table of them.
-use Rattle.std.specs.Prelude.{ℕ, suc, ◌+◌, ◌-◌, ◌*◌, ◌≤◌, ◌<◌, ◌≡◌, List, Bool, eqb, length}
+use Rattle.std.specs.Prelude.{ℕ, suc, ◌+◌, ◌-◌, ◌*◌, ◌≤◌, ◌<◌, ◌≡◌, List, Bool, eqb, length, Ok, Err}
 use Rattle.std.proofs.Math.Path.{refl}
 use Rattle.std.proofs.Common.{ap, sym, ◌∙◌, add_comm, mul-suc, arith}
 use Rattle.std.proofs.Math.Bool.{true, false}
@@ -18,7 +18,6 @@ use Rattle.format.specs.declared.Guid.{Guid}
 use Rattle.format.specs.declared.Name.{Name}
 use Rattle.format.specs.declared.Definition.{Definition}
 use Rattle.format.specs.declared.Header.{Header}
-use Rattle.blob.specs.declared.Verdict.TheVariants as verdicts
 
 -- the other kinds have no names
 pub no_name : (k : ℕ) → k ≤ 8 → no k CHAN → no k KEYW → no k LEVL → no k OPCO → no k TASK → name_field k ≡ 0
@@ -45,7 +44,7 @@ module _ (k at : ℕ) (s : List ℕ) (d : Definition) (fields : run (fields_at k
       run-after (fields_at k at) _ s d fields ∙ run-after (name_at blob_end (name_field k) d.offset) _ s n (rw field at e)
 
   -- a definition that is fine has a name that is
-  pub name-fine : verdict (run (definition_at k at) s) ≡ verdicts.Fine → verdict (run (name_at (until (length s)) f d.offset) s) ≡ verdicts.Fine
+  pub name-fine : verdict (run (definition_at k at) s) ≡ Ok tt → verdict (run (name_at (until (length s)) f d.offset) s) ≡ Ok tt
   unfolding definition_at
   name-fine v =
       let n = bind_fine (name_at blob_end (name_field k) d.offset) _ s (ap verdict (sym (run-after (fields_at k at) _ s d fields)) ∙ v) in
@@ -74,14 +73,14 @@ module _ (k at : ℕ) (s : List ℕ) where
 
   -- a record is fine where its name is
   module _ (f : ℕ) (field : f ≡ name_field k) (p : ℕ) (place : p ≡ name_place k) (o : ℕ) (offset : o ≡ le 4 s (at + p)) where
-    pub record_refused : (r : Refusal) → verdicts.Refused r ≡ verdict (run (name_at (until (length s)) f o) s) → run (definition_at k at) s ≡ refused r
+    pub record_refused : (r : Refusal) → Err r ≡ verdict (run (name_at (until (length s)) f o) s) → run (definition_at k at) s ≡ refused r
     record_refused r h = go (run (fields_at k at) s) refl offers
       where
         go : (x : Outcome Definition) → run (fields_at k at) s ≡ x → Offers (le 4 s (at + name_place k)) x → run (definition_at k at) s ≡ refused r
         go (done d) e w = definition_refused k at s d e f field r (name-until blob_end f d.offset s ∙ rw (w ∙ ap (λ q. le 4 s (at + q)) (sym place) ∙ sym offset) (refused-value _ r h))
         go (refused q) e w = absurd w
 
-    pub record_found : verdicts.Fine ≡ verdict (run (name_at (until (length s)) f o) s) → (d : Definition) × (run (definition_at k at) s ≡ done d)
+    pub record_found : Ok tt ≡ verdict (run (name_at (until (length s)) f o) s) → (d : Definition) × (run (definition_at k at) s ≡ done d)
     record_found h = go (run (fields_at k at) s) refl offers
       where
         go : (x : Outcome Definition) → run (fields_at k at) s ≡ x → Offers (le 4 s (at + name_place k)) x → (d : Definition) × (run (definition_at k at) s ≡ done d)
@@ -111,6 +110,6 @@ module _ (k at : ℕ) (h : Header) (s : List ℕ) where
   table-rows e g = run-after (table_end k at h) _ s e g
 
   -- a table that is fine ends
-  pub table-ends : verdict (run (definitions_at k at h) s) ≡ verdicts.Fine → (e : ℕ) × (run (table_end k at h) s ≡ done e)
+  pub table-ends : verdict (run (definitions_at k at h) s) ≡ Ok tt → (e : ℕ) × (run (table_end k at h) s ≡ done e)
   unfolding definitions_at
   table-ends v = let b = bind_fine (table_end k at h) _ s v in (b.0, b.1)

@@ -10,11 +10,11 @@ ghost use Rattle.format.specs.Definition.{channel_fields, keyword_fields, task_f
 ghost use Rattle.format.specs.Lists.{definition_words};
 ghost use Rattle.definition.specs.Records.{rows, name_place};
 
-use blob::Verdict;
+use blob::Refusal;
 use format::field::{CHAN_NAME, KEYW_DATA, LEVL_DATA, OPCO_DATA, TASK_DATA};
 use format::kind::{CHAN, KEYW, LEVL, OPCO, TASK};
 use format::list::width;
-use format::{Definition, EndRead, Guid, Header, Name};
+use format::{Definition, Guid, Header, Name};
 use name::absent;
 use table::{header_length, stride, table_end};
 use words::guid_at;
@@ -151,7 +151,7 @@ fn name_place(kind: u32) -> usize
 }
 
 // Whether n records of a kind stand one after another from a place on, each with its name.
-fn check_records(b: &[u8], kind: u32, start: usize, n: u32) -> Verdict
+fn check_records(b: &[u8], kind: u32, start: usize, n: u32) -> Result<(), Refusal>
     requires kind_bound { (kind ≤ 8) × (12 ≤ stride kind) × (start + stride kind * n ≤ length b.now) }
     requires b_len_bound { length b.now ≤ 16777216 }
     ensures { result ≡ verdict (run (rows kind (stride kind) n start) b.now) }
@@ -159,30 +159,20 @@ fn check_records(b: &[u8], kind: u32, start: usize, n: u32) -> Verdict
     let bytes = stride(kind) as usize;
     let field = name_field(kind);
     let place = name_place(kind);
-    let mut at = start;
-    let mut left = n;
-    while 0 < left {
-        let offset = blob::word(b, at + place);
-        let found = name::check(b, b.len(), field, offset);
-        if let Verdict::Refused(r) = found {
-            return Verdict::Refused(r);
-        }
-        at += bytes;
-        left -= 1;
+    for i in 0..n as usize {
+        let offset = blob::word(b, start + bytes * i + place);
+        name::check(b, b.len(), field, offset)?;
     }
-    Verdict::Fine
+    Ok(())
 }
 
 // Whether the table of definitions at a place is right, whose header has been read.
-pub fn check_definitions(b: &[u8], kind: u32, at: usize, h: Header) -> Verdict
+pub fn check_definitions(b: &[u8], kind: u32, at: usize, h: Header) -> Result<(), Refusal>
     requires le_kind { (1 ≤ kind) × (kind ≤ 8) × (12 ≤ stride kind) × (at + header_length kind ≤ length b.now) }
     requires b_len_bound { length b.now ≤ 16777216 }
     ensures { result ≡ verdict (run (definitions_at kind at h) b.now) }
 {
-    let bound = table_end(b, kind, at, h);
-    if let EndRead::Refused(r) = bound {
-        return Verdict::Refused(r);
-    }
+    table_end(b, kind, at, h)?;
     check_records(b, kind, at + header_length(kind) as usize, h.count)
 }
 
@@ -190,7 +180,7 @@ pub fn check_definitions(b: &[u8], kind: u32, at: usize, h: Header) -> Verdict
 fn definition_of(b: &[u8], kind: u32, at: usize) -> Definition
     requires kind_bound { (kind ≤ 8) × (12 ≤ stride kind) × (at + stride kind ≤ length b.now) }
     requires b_len_bound { length b.now ≤ 16777216 }
-    requires b_value { verdict (run (definition_at kind at) b.now) ≡ Verdict.Fine }
+    requires b_value { verdict (run (definition_at kind at) b.now) ≡ Ok tt }
     ensures { run (definition_at kind at) b.now ≡ done result }
 {
     let d = fields_at(b, kind, at);
@@ -224,7 +214,7 @@ fn put_definition(area: &mut [u32], to: usize, d: Definition)
 fn fill_records(b: &[u8], kind: u32, start: usize, n: u32, area: &mut [u32])
     requires kind_bound { (kind ≤ 8) × (12 ≤ stride kind) × (start + stride kind * n ≤ length b.now) }
     requires b_len_bound { length b.now ≤ 16777216 }
-    requires b_value { verdict (run (rows kind (stride kind) n start) b.now) ≡ Verdict.Fine }
+    requires b_value { verdict (run (rows kind (stride kind) n start) b.now) ≡ Ok tt }
     requires n_in_bounds { width DEFINITIONS * n ≤ length area.old }
     ensures { area.new ≡ laid area.old 0 (flat definition_words (values (run (rows kind (stride kind) n start) b.now))) }
 {
@@ -244,7 +234,7 @@ fn fill_records(b: &[u8], kind: u32, start: usize, n: u32, area: &mut [u32])
 pub fn fill_definitions(b: &[u8], kind: u32, at: usize, h: Header, area: &mut [u32])
     requires le_kind { (1 ≤ kind) × (kind ≤ 8) × (12 ≤ stride kind) × (at + header_length kind ≤ length b.now) }
     requires b_len_bound { length b.now ≤ 16777216 }
-    requires b_value { verdict (run (definitions_at kind at h) b.now) ≡ Verdict.Fine }
+    requires b_value { verdict (run (definitions_at kind at h) b.now) ≡ Ok tt }
     requires count_in_bounds { width DEFINITIONS * h.count ≤ length area.old }
     ensures { area.new ≡ laid area.old 0 (flat definition_words (values (run (definitions_at kind at h) b.now))) }
 {

@@ -1,9 +1,8 @@
 -- What a reading of an event's record finds: it is never refused.
-use Rattle.std.specs.Prelude.{ℕ, ◌+◌, ◌≡◌, List}
+use Rattle.std.specs.Prelude.{ℕ, ◌+◌, ◌≡◌, List, Ok}
 use Rattle.blob.specs.Le.{le}
 use Rattle.blob.specs.Reading.{done, run, many, verdict}
 use Rattle.blob.proofs.Laws.{run-number, many-fine}
-use Rattle.blob.specs.declared.Verdict.TheVariants as verdicts
 use Rattle.format.specs.Definition.{step}
 use Rattle.format.specs.Event.{event_at}
 use Rattle.format.specs.declared.Event.{Event}
@@ -34,5 +33,5 @@ pub event-found : (s : List ℕ) (at : ℕ) → run (event_at at) s ≡ done (ev
 unfolding event_at run
 event-found s at = simp run-number
 
-pub events-fine : (s : List ℕ) (n at : ℕ) → verdict (run (many event_at (step 48) n at) s) ≡ verdicts.Fine
+pub events-fine : (s : List ℕ) (n at : ℕ) → verdict (run (many event_at (step 48) n at) s) ≡ Ok tt
 events-fine s n at = many-fine event_at (step 48) s (λ p. (event s p, event-found s p)) n at

@@ -1,6 +1,6 @@
 -- What a call over the C boundary finds, and what the lent numbers then hold. The lent words hold what `held` says of it, the lent list
 -- of GUIDs what `guids_held` says.
-use Rattle.std.specs.Prelude.{ℕ, ◌+◌, ◌≡◌, Bool, ◌&&◌, List, [], ◌∷◌, length, get_or, eqb, leb}
+use Rattle.std.specs.Prelude.{ℕ, ◌+◌, ◌≡◌, Bool, ◌&&◌, List, [], ◌∷◌, length, get_or, eqb, leb, Ok, Err, Result, Some, None, Option}
 use Rattle.blob.specs.Reading.{Outcome, refused, choose}
 use Rattle.blob.specs.declared.Refusal.{Refusal}
 use Rattle.format.specs.Area.{rows}
@@ -11,10 +11,6 @@ use Rattle.format.specs.Lookup.{by_offset, by_key, guids_found, guids_held}
 use Rattle.format.specs.Says.{template_says, guids_says}
 use Rattle.format.specs.declared.Answer.{Answer}
 use Rattle.format.specs.declared.Key.{Key}
-use Rattle.format.specs.declared.TemplateFound.{TemplateFound}
-use Rattle.format.specs.declared.TemplateFound.TheVariants as template
-use Rattle.format.specs.declared.GuidsFound.{GuidsFound}
-use Rattle.format.specs.declared.GuidsFound.TheVariants as guids
 
 -- what the lent numbers hold after a call whose answer has such numbers: these, where as many are lent
 unfoldable pub told : List ℕ → List ℕ → List ℕ
@@ -46,23 +42,23 @@ said r found = r.code ∷ r.place ∷ r.first ∷ r.second ∷ found
 
 -- "`answer` has 6 numbers, code, place, first, second, found (0 or 1), number"; "found, number and GUIDs given are 0 where nothing is
 -- found and on a refusal"
-abbrev pub found_numbers : TemplateFound → List ℕ
-found_numbers (template.Number n) = 1 ∷ n ∷ []
-found_numbers template.Nothing = 0 ∷ 0 ∷ []
-found_numbers (template.Refused r) = 0 ∷ 0 ∷ []
+abbrev pub found_numbers : Result (Option ℕ) Refusal → List ℕ
+found_numbers (Ok (Some n)) = 1 ∷ n ∷ []
+found_numbers (Ok None) = 0 ∷ 0 ∷ []
+found_numbers (Err r) = 0 ∷ 0 ∷ []
 
-abbrev pub template_numbers : TemplateFound → List ℕ
+abbrev pub template_numbers : Result (Option ℕ) Refusal → List ℕ
 template_numbers f = said (template_says f) (found_numbers f)
 
 -- "A wrong length of `capacities`, `counts`, `key` or `answer` answers 8"
 abbrev pub each_row : List ℕ → List ℕ → Bool
 each_row capacities counts = eqb (length capacities) (length rows) && eqb (length counts) (length rows)
 
-unfoldable pub called_at : (words capacities counts : List ℕ) → (provider first count offset n : ℕ) → TemplateFound
+unfoldable pub called_at : (words capacities counts : List ℕ) → (provider first count offset n : ℕ) → Result (Option ℕ) Refusal
 called_at words capacities counts provider first count offset n =
     choose (each_row capacities counts && eqb n 6)
     (by_offset words capacities counts provider first count offset)
-    (template.Refused (own 8))
+    (Err (own 8))
 
 -- "`key` has 12 words (GUID 4, event_id, version, channel, level, opcode, task, keywords low, high)"
 abbrev pub key_of : List ℕ → Key
@@ -80,11 +76,11 @@ key_of l =
     }
 
 -- "`answer` has 5 numbers, code, place, first, second, GUIDs given"
-abbrev pub given_number : GuidsFound → ℕ
-given_number (guids.Given n) = n
-given_number (guids.Refused r) = 0
+abbrev pub given_number : Result ℕ Refusal → ℕ
+given_number (Ok n) = n
+given_number (Err r) = 0
 
-abbrev pub guid_numbers : GuidsFound → List ℕ
+abbrev pub guid_numbers : Result ℕ Refusal → List ℕ
 guid_numbers f = said (guids_says f) (given_number f ∷ [])
 
 unfoldable pub called_for : (words capacities counts key lent : List ℕ) → ℕ → Outcome (List Entry)

@@ -1,14 +1,13 @@
 -- CRIM: "signature (tested at once), size, two u16 versions, provider count; read field by field, all before size is tested. Size under
 -- 16, or over the lent length, is 3 at 0. Only the first size bytes are the blob." (layouts)
-use Rattle.std.specs.Prelude.{ℕ, ◌+◌, ◌*◌, List, take, leb, eqb}
-use Rattle.blob.specs.Reading.{Reading, got, room, Outcome, done, demand, run, then, ◌>>=◌, number, many, answer}
+use Rattle.std.specs.Prelude.{ℕ, ◌+◌, ◌*◌, List, take, leb, eqb, Ok, Err, Result}
+use Rattle.blob.specs.declared.Refusal.{Refusal}
+use Rattle.blob.specs.Reading.{Reading, got, room, Outcome, done, demand, run, then, ◌>>=◌, number, many, answer, as_result}
 use Rattle.format.specs.Field.{CRIM_signature, CRIM_size, CRIM_major_version, CRIM_minor_version, CRIM_provider_count, CRIM_provider_descriptor_array}
 use Rattle.format.specs.Refuse.{whole, wrong_signature, size_out}
 use Rattle.format.specs.Definition.{guid_at, step}
 use Rattle.format.specs.Provider.{Provider, provider_at}
 use Rattle.format.specs.declared.CrimHeader.{CrimHeader}
-use Rattle.format.specs.declared.CrimRead.{CrimRead}
-use Rattle.format.specs.declared.CrimRead.TheVariants as header_read
 
 -- `CRIM` as a little-endian number
 abbrev pub CRIM : ℕ
@@ -32,8 +31,8 @@ header =
     got (record { size = size; major = major; minor = minor; count = count })))))))))
 
 -- what the code answers for the header
-abbrev pub crim_read : Outcome CrimHeader → CrimRead
-crim_read o = answer header_read.Header header_read.Refused o
+abbrev pub crim_read : Outcome CrimHeader → Result CrimHeader Refusal
+crim_read o = as_result (λ h. h) o
 
 -- "20 bytes per provider from byte 16 (GUID, offset ..), each provider finished before the next is read"
 unfoldable pub described_at : ℕ → Reading Provider

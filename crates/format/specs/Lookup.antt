@@ -1,7 +1,8 @@
 -- Finding a template. "A lookup takes the lent words, capacities and counts of a reading. Order: 8 as above, 10 for a count over its
 -- capacity or a fault named below, then 9." (finding a template)
-use Rattle.std.specs.Prelude.{ℕ, zero, suc, ◌+◌, ◌/◌, ◌≡◌, Bool, true, false, not, ◌&&◌, ◌||◌, List, [], ◌∷◌, map, length, get_or, take, drop, leb, ltb, eqb}
-use Rattle.blob.specs.Reading.{Outcome, done, refused, choose, answer}
+use Rattle.std.specs.Prelude.{ℕ, zero, suc, ◌+◌, ◌/◌, ◌≡◌, Bool, true, false, not, ◌&&◌, ◌||◌, List, [], ◌∷◌, map, length, get_or, take, drop, leb, ltb, eqb, Ok, Err, Result, Some, None, Option}
+use Rattle.blob.specs.declared.Refusal.{Refusal}
+use Rattle.blob.specs.Reading.{Outcome, done, refused, choose, answer, as_result}
 use Rattle.blob.specs.Laid.{laid, flat}
 use Rattle.format.specs.Area.{PROVIDERS, TABLES, EVENTS, TEMPLATES, GUIDS, rows, place, width, of}
 use Rattle.format.specs.Entry.{TABLE_PROVIDER, TABLE_KIND, TABLE_FIRST, TABLE_COUNT, GUID, KEY, EVENT_TEMPLATE, TEMPLATE_PROVIDER, TEMPLATE_OFFSET, TEMPLATE_GUID}
@@ -9,10 +10,6 @@ use Rattle.format.specs.Table.{EVNT, TTBL, kind_list}
 use Rattle.format.specs.Lists.{Entry, guid_words}
 use Rattle.format.specs.Answer.{own, too_small, areas, lent_enough}
 use Rattle.format.specs.declared.Key.{Key}
-use Rattle.format.specs.declared.TemplateFound.{TemplateFound}
-use Rattle.format.specs.declared.TemplateFound.TheVariants as template
-use Rattle.format.specs.declared.GuidsFound.{GuidsFound}
-use Rattle.format.specs.declared.GuidsFound.TheVariants as guids
 
 -- n entries of so many words each, from a place of the words on
 unfoldable pub entries_from : ℕ → ℕ → ℕ → List ℕ → List Entry
@@ -56,20 +53,20 @@ positions p n (e ∷ es) = choose (p e) (n ∷ positions p (suc n) es) (position
 -- "By offset: given a first entry and a count, the number in list 9 of the lowest template entry in that range whose offset is equal,
 -- or none exactly if none is. A range past the list is 10."; it takes "a provider number" too, and "A range entry with another provider
 -- doesn't match." (request 06)
-abbrev pub numbered : List ℕ → TemplateFound
-numbered [] = template.Nothing
-numbered (n ∷ ns) = template.Number n
+abbrev pub numbered : List ℕ → Result (Option ℕ) Refusal
+numbered [] = Ok None
+numbered (n ∷ ns) = Ok (Some n)
 
 abbrev pub matches : (provider offset : ℕ) → Entry → Bool
 matches provider offset t = eqb (word_of TEMPLATE_PROVIDER t) provider && eqb (word_of TEMPLATE_OFFSET t) offset
 
-unfoldable pub by_offset : List ℕ → List ℕ → List ℕ → (provider first count offset : ℕ) → TemplateFound
+unfoldable pub by_offset : List ℕ → List ℕ → List ℕ → (provider first count offset : ℕ) → Result (Option ℕ) Refusal
 by_offset words capacities counts provider first count offset =
     choose (lent_enough capacities words)
     (choose (counts_fit counts capacities && leb (first + count) (of TEMPLATES counts))
     (numbered (position (matches provider offset) first (take count (drop first (entries_of words capacities counts TEMPLATES)))))
-    (template.Refused (own 10)))
-    (template.Refused (own 8))
+    (Err (own 10)))
+    (Err (own 8))
 
 -- two runs of words are the same
 unfoldable pub alike : List ℕ → List ℕ → Bool
@@ -157,17 +154,17 @@ by_key words capacities counts key lent =
     (refused (own 8))
 
 -- what the code answers, and what the lent list then holds
-abbrev pub guids_found : Outcome (List Entry) → GuidsFound
-guids_found o = answer (λ gs. guids.Given (length gs)) guids.Refused o
+abbrev pub guids_found : Outcome (List Entry) → Result ℕ Refusal
+guids_found o = as_result (λ gs. length gs) o
 
 abbrev pub guids_held : List ℕ → Outcome (List Entry) → List ℕ
 guids_held lent (done gs) = laid lent 0 (flat (λ g. g) gs)
 guids_held lent (refused r) = lent
 
 -- What the lookups may answer and leave in the lent list: this, and nothing else. It is what the code promises.
-pub record AllowedAt (words capacities counts : List ℕ) (provider first count offset : ℕ) (f : TemplateFound) : Type 0 where
+pub record AllowedAt (words capacities counts : List ℕ) (provider first count offset : ℕ) (f : Result (Option ℕ) Refusal) : Type 0 where
   pub answered : f ≡ by_offset words capacities counts provider first count offset
 
-pub record AllowedFor (words capacities counts : List ℕ) (key : Key) (lent : List ℕ) (f : GuidsFound) (after : List ℕ) : Type 0 where
+pub record AllowedFor (words capacities counts : List ℕ) (key : Key) (lent : List ℕ) (f : Result ℕ Refusal) (after : List ℕ) : Type 0 where
   pub answered : f ≡ guids_found (by_key words capacities counts key lent)
   pub kept : after ≡ guids_held lent (by_key words capacities counts key lent)

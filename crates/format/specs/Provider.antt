@@ -1,7 +1,8 @@
 -- WEVT: its descriptors, unknown2 words and elements. "(20 bytes; a place past the blob 5, cut short 1): signature, size, message,
 -- descriptor count, unknown2 count." (layouts)
-use Rattle.std.specs.Prelude.{ℕ, ◌+◌, ◌*◌, ◌-◌, min, List, eqb}
-use Rattle.blob.specs.Reading.{Reading, got, Outcome, room, choose, demand, ◌>>=◌, number, many, each, answer}
+use Rattle.std.specs.Prelude.{ℕ, ◌+◌, ◌*◌, ◌-◌, min, List, eqb, Ok, Err, Result}
+use Rattle.blob.specs.declared.Refusal.{Refusal}
+use Rattle.blob.specs.Reading.{Reading, got, Outcome, room, choose, demand, ◌>>=◌, number, many, each, answer, as_result}
 use Rattle.format.specs.Field.{WEVT_provider_offset, WEVT_header, WEVT_descriptor_array, WEVT_element_offset, WEVT_element_signature, WEVT_unknown2_array, provider_element_offset, unknown_element_header, unknown_element_end}
 use Rattle.format.specs.Refuse.{whole, within, wrong_signature, offset_out}
 use Rattle.format.specs.Table.{EVNT, MAPS, TTBL, kind_of, header_at, header_length, stride, table_end}
@@ -14,8 +15,6 @@ use Rattle.format.specs.declared.Guid.{Guid}
 use Rattle.format.specs.declared.Definition.{Definition}
 use Rattle.format.specs.declared.Event.{Event}
 use Rattle.format.specs.declared.Wevt.{Wevt}
-use Rattle.format.specs.declared.WevtRead.{WevtRead}
-use Rattle.format.specs.declared.WevtRead.TheVariants as wevt
 use Rattle.format.specs.declared.Descriptor.{Descriptor}
 use Rattle.format.specs.declared.Unknown.{Unknown}
 
@@ -114,8 +113,8 @@ wevt_at at =
     got (record { size = size; message = message; descriptors = d; unknown2 = u }))))
 
 -- what the code answers for a header
-abbrev pub wevt_read : Outcome Wevt → WevtRead
-wevt_read o = answer wevt.Wevt wevt.Refused o
+abbrev pub wevt_read : Outcome Wevt → Result Wevt Refusal
+wevt_read o = as_result (λ w. w) o
 
 -- "first their array whole in the blob (1) ..; then the unknown2 words, whole too (1); then the elements in descriptor order."
 unfoldable pub provider_at : Guid → ℕ → Reading Provider

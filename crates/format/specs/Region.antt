@@ -1,11 +1,10 @@
 -- Regions: where the bytes of a TTBL or a MAPS end, the items of a TEMP, and the names in a TEMP or a blob.
 -- "size 0 ends the region at the blob end" (TTBL); "region as for TTBL, minimum 16" (MAPS); "Otherwise size under the header or
 -- past the blob is 3" (tables).
-use Rattle.std.specs.Prelude.{ℕ, ◌+◌, leb, eqb}
-use Rattle.blob.specs.Reading.{Fault, Reading, got, room, Outcome, choose, demand, ◌>>=◌, answer}
+use Rattle.std.specs.Prelude.{ℕ, ◌+◌, leb, eqb, Ok, Err, Result}
+use Rattle.blob.specs.declared.Refusal.{Refusal}
+use Rattle.blob.specs.Reading.{Fault, Reading, got, room, Outcome, choose, demand, ◌>>=◌, answer, as_result}
 use Rattle.format.specs.Refuse.{size_out}
-use Rattle.format.specs.declared.EndRead.{EndRead}
-use Rattle.format.specs.declared.EndRead.TheVariants as read
 
 pub data Region : Type 0 where
   blob_end : Region
@@ -34,5 +33,5 @@ unfoldable pub region_at : ℕ → ℕ → ℕ → ℕ → Reading Region
 region_at f at size least = choose (eqb size 0) (got blob_end) (bounded f at size least >>= λ e. got (until e))
 
 -- what the code answers for a value that tells an end
-abbrev pub end_read : {A : Type 0} → (A → ℕ) → Outcome A → EndRead
-end_read told o = answer (λ a. read.End (told a)) read.Refused o
+abbrev pub end_read : {A : Type 0} → (A → ℕ) → Outcome A → Result ℕ Refusal
+end_read told o = as_result told o

@@ -1,15 +1,14 @@
 -- Table headers, and the end of a table of records.
 -- "signature, size, count; records from 12 (EVNT from 16). Order: offset (5), header length (1), signature (2), then bounds." (tables)
-use Rattle.std.specs.Prelude.{ℕ, ◌+◌, ◌*◌, List, [], ◌∷◌, get_or, leb, eqb}
-use Rattle.blob.specs.Reading.{Reading, got, Outcome, choose, demand, ◌>>=◌, number, answer}
+use Rattle.std.specs.Prelude.{ℕ, ◌+◌, ◌*◌, List, [], ◌∷◌, get_or, leb, eqb, Ok, Err, Result}
+use Rattle.blob.specs.declared.Refusal.{Refusal}
+use Rattle.blob.specs.Reading.{Reading, got, Outcome, choose, demand, ◌>>=◌, number, answer, as_result}
 use Rattle.format.specs.Area as area
 use Rattle.format.specs.Area.{DEFINITIONS, EVENTS, TEMPLATES}
 use Rattle.format.specs.Field.{table_offset, table_header, table_size, table_array}
 use Rattle.format.specs.Refuse.{whole, within, wrong_signature, size_out}
 use Rattle.format.specs.Region.{bounded}
 use Rattle.format.specs.declared.Header.{Header}
-use Rattle.format.specs.declared.HeaderRead.{HeaderRead}
-use Rattle.format.specs.declared.HeaderRead.TheVariants as read
 
 -- "Kinds: CHAN 1, EVNT 2, KEYW 3, LEVL 4, MAPS 5, OPCO 6, TASK 7, TTBL 8." (the lists)
 abbrev pub CHAN : ℕ
@@ -85,5 +84,5 @@ table_end k at h =
     demand (leb (start + bytes) e) (size_out (table_array k) at h.size) (got e))
 
 -- what the code answers for a header
-abbrev pub header_read : Outcome Header → HeaderRead
-header_read o = answer read.Header read.Refused o
+abbrev pub header_read : Outcome Header → Result Header Refusal
+header_read o = as_result (λ h. h) o

@@ -1,7 +1,6 @@
 // The types that the definition of the format speaks of, and that the code reads into. What is right stands in specs/.
 #![tactic(auto)]
 
-use blob::{Refusal, Verdict};
 use list::AREAS;
 
 pub mod entry;
@@ -30,25 +29,11 @@ pub struct Name {
     pub ended: bool,
 }
 
-// What reading a region's size finds: where the region ends.
-#[derive(Clone, Copy)]
-pub enum EndRead {
-    End(usize),
-    Refused(Refusal),
-}
-
 // A table's size and count words.
 #[derive(Clone, Copy)]
 pub struct Header {
     pub size: u32,
     pub count: u32,
-}
-
-// What reading a table's header finds.
-#[derive(Clone, Copy)]
-pub enum HeaderRead {
-    Header(Header),
-    Refused(Refusal),
 }
 
 // A record of CHAN, KEYW, LEVL, OPCO or TASK, one entry type for all five.
@@ -115,21 +100,6 @@ pub struct Map {
     pub length: u32,
 }
 
-// What reading a map finds.
-#[derive(Clone, Copy)]
-pub enum MapRead {
-    Map(Map),
-    Refused(Refusal),
-}
-
-// What checking an element finds: how many entries its own entries have, a MAPS's maps map entries and a TTBL's templates items, where
-// the number stops rising at 65,537.
-#[derive(Clone, Copy)]
-pub enum EntriesRead {
-    Entries(u32),
-    Refused(Refusal),
-}
-
 // An entry of a VMAP.
 #[derive(Clone, Copy)]
 pub struct MapEntry {
@@ -144,13 +114,6 @@ pub struct Wevt {
     pub message: u32,
     pub descriptors: u32,
     pub unknown2: u32,
-}
-
-// What reading a WEVT's header finds.
-#[derive(Clone, Copy)]
-pub enum WevtRead {
-    Wevt(Wevt),
-    Refused(Refusal),
 }
 
 // A provider's element descriptor, with its element's signature.
@@ -169,13 +132,6 @@ pub struct Unknown {
     pub size: u32,
 }
 
-// What checking the providers finds: how many entries each list needs for them, where each number stops rising at 65,537.
-#[derive(Clone, Copy)]
-pub struct Needed {
-    pub verdict: Verdict,
-    pub counts: [u32; AREAS],
-}
-
 // The header of the CRIM block.
 #[derive(Clone, Copy)]
 pub struct CrimHeader {
@@ -183,13 +139,6 @@ pub struct CrimHeader {
     pub major: u32,
     pub minor: u32,
     pub count: u32,
-}
-
-// What reading the block's header finds.
-#[derive(Clone, Copy)]
-pub enum CrimRead {
-    Header(CrimHeader),
-    Refused(Refusal),
 }
 
 // The answer of a reading.
@@ -215,19 +164,4 @@ pub struct Key {
     pub task: u32,
     pub low: u32,
     pub high: u32,
-}
-
-// What the lookup by offset finds: the number of a template entry.
-#[derive(Clone, Copy)]
-pub enum TemplateFound {
-    Number(u32),
-    Nothing,
-    Refused(Refusal),
-}
-
-// What the lookup by key finds: how many GUIDs it gave.
-#[derive(Clone, Copy)]
-pub enum GuidsFound {
-    Given(u32),
-    Refused(Refusal),
 }

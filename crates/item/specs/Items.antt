@@ -1,11 +1,10 @@
 -- What an item that is fine is, and what its name and the array as a whole decide.
-use Rattle.std.specs.Prelude.{ℕ, zero, suc, ◌+◌, ◌*◌, ◌^◌, ◌≤◌, ◌<◌, ◌≡◌, Bool, true, false, List, [], ◌∷◌, eqb, length}
+use Rattle.std.specs.Prelude.{ℕ, zero, suc, ◌+◌, ◌*◌, ◌^◌, ◌≤◌, ◌<◌, ◌≡◌, Bool, true, false, List, [], ◌∷◌, eqb, length, Ok}
 use Rattle.std.proofs.Common.{zero-add, add-zero, suc-add, pow-suc, one-mul, mul_assoc, arith, ap, ◌∙◌}
 use Rattle.std.proofs.Math.Nat.{pow-zero}
 use Rattle.std.proofs.Math.Path.{refl, sym}
 use mir.Val.{bool_byte}
 use borrow.Author.Tests.{le-leb, lt-leb, leb-true}
-use Rattle.blob.specs.declared.Verdict.TheVariants as verdicts
 use Rattle.blob.specs.Le.{le}
 use Rattle.blob.specs.Reading.{Outcome, done, refused, choose, run, then, many, verdict}
 use Rattle.blob.proofs.Laws.{same, fine-value, run_bind, run-number, run-got, run_holds, run-fails, many-none, many-count}
@@ -74,7 +73,7 @@ module _ (temp e at : ℕ) (s : List ℕ) where
       let range : le 4 s (at + 12) ≡ le 2 s (at + 12) + 65536 * le 2 s (at + 14) = le_parts 2 2 s (at + 12) ∙ ap (λ p. le 2 s (at + 12) + 65536 * le 2 s p) (omega arith) in
       rw (x.0, same _ _ (sym x.1 ∙ g), types, range, ended-cast name)
 
-  pub name-fine : verdict (run (item_at temp e at) s) ≡ verdicts.Fine → verdict (run (name_at (until e) template_item_name (le 4 s (at + 16))) s) ≡ verdicts.Fine
+  pub name-fine : verdict (run (item_at temp e at) s) ≡ Ok tt → verdict (run (name_at (until e) template_item_name (le 4 s (at + 16))) s) ≡ Ok tt
   name-fine v = let i = fine-value _ v in ap verdict (item_is i.0 i.1).1
 
 -- it starts in the TEMP where the items offset lies there
@@ -96,7 +95,7 @@ module _ (temp e n offset : ℕ) (s : List ℕ) where
   unfolding items_from inside
   items-past h = run-fails _ _ _ _ (lt-leb _ _ h)
 
-  pub items-fit : verdict (run (items_from temp e n offset) s) ≡ verdicts.Fine → items_start e offset + 20 * n ≤ e
+  pub items-fit : verdict (run (items_from temp e n offset) s) ≡ Ok tt → items_start e offset + 20 * n ≤ e
   unfolding items_from inside
   items-fit v = let f = fine-value _ v in within.found f.0 f.1
     where
@@ -108,5 +107,5 @@ module _ (temp e n offset : ℕ) (s : List ℕ) where
   items-count is h = many-count (item_at temp e) (step 20) n (items_start e offset) s is (sym (items-row (items-fit (ap verdict h))) ∙ h)
 
   -- where there are none, nothing is refused
-  pub no_items : n ≡ 0 → offset ≤ e → verdict (run (items_from temp e n offset) s) ≡ verdicts.Fine
+  pub no_items : n ≡ 0 → offset ≤ e → verdict (run (items_from temp e n offset) s) ≡ Ok tt
   no_items z h = ap verdict (items-row (omega (arith, z, start_fits e offset h))) ∙ many-none (item_at temp e) (step 20) n (items_start e offset) s (omega arith)

@@ -9,43 +9,32 @@ ghost use Rattle.format.specs.Definition.{step};
 ghost use Rattle.format.specs.Item.{Item, item_name_at, item_at, items_start, items_from};
 ghost use Rattle.format.specs.Lists.{item_words};
 
-use blob::Verdict;
+use blob::Refusal;
 use format::field::{TEMPLATE_ITEM_DESCRIPTORS, TEMPLATE_ITEM_NAME, TEMPLATE_ITEM_NAME_OFFSET};
 use format::list::width;
 
 // Whether the name at an offset is fine, of an item of the TEMP that stands from `temp` to `end`.
-fn check_name(b: &[u8], temp: u32, end: usize, offset: u32) -> Verdict
+fn check_name(b: &[u8], temp: u32, end: usize, offset: u32) -> Result<(), Refusal>
     requires { (end ≤ length b.now) × (length b.now ≤ 16777216) }
     ensures { result ≡ verdict (run (item_name_at temp end offset) b.now) }
 {
     if offset < temp {
         if offset != 0 {
-            return Verdict::Refused(bounds::offset_out(
-                b.len(),
-                TEMPLATE_ITEM_NAME_OFFSET,
-                offset as usize,
-            ));
+            return Err(bounds::offset_out(b.len(), TEMPLATE_ITEM_NAME_OFFSET, offset as usize));
         }
     }
     name::check(b, end, TEMPLATE_ITEM_NAME, offset)
 }
 
 // Whether n items stand one after another from a place on, each with its name.
-fn check_row(b: &[u8], temp: u32, end: usize, start: usize, n: u32) -> Verdict
+fn check_row(b: &[u8], temp: u32, end: usize, start: usize, n: u32) -> Result<(), Refusal>
     requires { (start + 20 * n ≤ end) × (end ≤ length b.now) × (length b.now ≤ 16777216) }
     ensures { result ≡ verdict (run (many (item_at temp end) (step 20) n start) b.now) }
 {
-    let mut at = start;
-    let mut left = n;
-    while 0 < left {
-        let found = check_name(b, temp, end, blob::word(b, at + 16));
-        if let Verdict::Refused(r) = found {
-            return Verdict::Refused(r);
-        }
-        at += 20;
-        left -= 1;
+    for i in 0..n as usize {
+        check_name(b, temp, end, blob::word(b, start + 20 * i + 16))?;
     }
-    Verdict::Fine
+    Ok(())
 }
 
 // Where the items of a TEMP start that ends at `end`.
@@ -59,14 +48,14 @@ fn items_start(end: usize, offset: u32) -> usize
 }
 
 // Whether the n items of the TEMP from `temp` to `end` are fine, whose items offset lies in it.
-pub fn check(b: &[u8], temp: u32, end: usize, n: u32, offset: u32) -> Verdict
+pub fn check(b: &[u8], temp: u32, end: usize, n: u32, offset: u32) -> Result<(), Refusal>
     requires { (offset ≤ end) × (end ≤ length b.now) × (length b.now ≤ 16777216) }
     ensures { result ≡ verdict (run (items_from temp end n offset) b.now) }
 {
     let start = items_start(end, offset);
     let needed = 20 * (n as usize);
     if end - start < needed {
-        return Verdict::Refused(bounds::truncated(end, TEMPLATE_ITEM_DESCRIPTORS, start, needed));
+        return Err(bounds::truncated(end, TEMPLATE_ITEM_DESCRIPTORS, start, needed));
     }
     check_row(b, temp, end, start, n)
 }
@@ -75,7 +64,7 @@ pub fn check(b: &[u8], temp: u32, end: usize, n: u32, offset: u32) -> Verdict
 // stand as the entry has them, and so do count and length.
 fn put(b: &[u8], temp: u32, end: usize, at: usize, number: u32, area: &mut [u32], to: usize)
     requires at_bound { (at + 20 ≤ end) × (end ≤ length b.now) × (length b.now ≤ 16777216) }
-    requires b_value { verdict (run (item_at temp end at) b.now) ≡ Verdict.Fine }
+    requires b_value { verdict (run (item_at temp end at) b.now) ≡ Ok tt }
     requires width_in_bounds { to + width ITEMS ≤ length area.old }
     ensures { (i : Item) → run (item_at temp end at) b.now ≡ done i → area.new ≡ laid area.old to (item_words number i) }
 {
@@ -108,7 +97,7 @@ pub fn fill(
     start: usize,
 )
     requires end_in_bounds { (end ≤ length b.now) × (length b.now ≤ 16777216) }
-    requires b_value { verdict (run (items_from temp end n offset) b.now) ≡ Verdict.Fine }
+    requires b_value { verdict (run (items_from temp end n offset) b.now) ≡ Ok tt }
     requires n_in_bounds { start + width ITEMS * n ≤ length area.old }
     ensures { area.new ≡ laid area.old start (flat (item_words number) (values (run (items_from temp end n offset) b.now))) }
 {

@@ -1,5 +1,5 @@
 -- What each test of a sized name decides, in the order of the tests.
-use Rattle.std.specs.Prelude.{ℕ, ◌+◌, ◌-◌, ◌/◌, ◌%◌, ◌≤◌, ◌<◌, ◌≡◌, refl, List, Bool, true, false, leb, eqb}
+use Rattle.std.specs.Prelude.{ℕ, ◌+◌, ◌-◌, ◌/◌, ◌%◌, ◌≤◌, ◌<◌, ◌≡◌, refl, List, Bool, true, false, leb, eqb, Ok, Err}
 use Rattle.std.proofs.Common.{ap, ◌∙◌, arith}
 use Rattle.std.proofs.Math.Path.{sym}
 use borrow.Author.Tests.{le-leb, lt-leb, leb-true, eq-eqb, ne_eqb}
@@ -10,7 +10,6 @@ use Rattle.blob.specs.Reading.{Fault, Reading, done, refused, demand, run, verdi
 use Rattle.format.specs.Refuse.{truncated, size_out, offset_out, not_utf16}
 use Rattle.format.specs.Region.{until, inside}
 use Rattle.format.specs.Name.{text, sized, name_at}
-use Rattle.blob.specs.declared.Verdict.TheVariants as verdicts
 
 -- a test before what is found holds
 demand-done : {A : Type 0} (t : Bool) (r : Fault) (k : Reading A) (s : List ℕ) (a : A) → run (demand t r k) s ≡ done a → (t ≡ true) × (run k s ≡ done a)
@@ -24,11 +23,11 @@ module _ (e f o : ℕ) (s : List ℕ) where
   unfolding name_at
   present h = rw (ne_eqb o 0 h)
 
-  pub refuses : (x y : Refusal) → x ≡ y → run (sized (until e) f o) s ≡ refused y → verdicts.Refused x ≡ verdict (run (sized (until e) f o) s)
-  refuses x y a g = ap verdicts.Refused a ∙ sym (ap verdict g)
+  pub refuses : (x y : Refusal) → x ≡ y → run (sized (until e) f o) s ≡ refused y → Err x ≡ verdict (run (sized (until e) f o) s)
+  refuses x y a g = ap Err a ∙ sym (ap verdict g)
 
   -- the size of a name that is fine is right, and it is its text
-  pub sized-fine : (size : ℕ) → size ≡ le 4 s o → (o ≡ 0 → ⊥) → verdict (run (name_at (until e) f o) s) ≡ verdicts.Fine
+  pub sized-fine : (size : ℕ) → size ≡ le 4 s o → (o ≡ 0 → ⊥) → verdict (run (name_at (until e) f o) s) ≡ Ok tt
       → (4 ≤ size) × (o + size ≤ e) × (run (name_at (until e) f o) s ≡ run (text f o ((size - 4) / 2) (o + 4) 0 false) s)
   unfolding sized inside
   sized-fine size z h v =

@@ -1,6 +1,6 @@
 -- What one unit makes of the rest of a text, a law for each kind of unit.
 use Prim.Native.Nat.{ℕ, zero, suc, ◌+◌, ◌-◌, ◌%◌, ◌≤◌, ◌<◌}
-use Rattle.std.specs.Prelude.{◌≡◌, List, Bool, ◌&&◌, leb, eqb}
+use Rattle.std.specs.Prelude.{◌≡◌, List, Bool, ◌&&◌, leb, eqb, Ok}
 use Rattle.std.proofs.Math.Path.{refl, ap}
 use Rattle.std.proofs.Common.{sym, ◌∙◌}
 use Rattle.std.proofs.Math.Bool.{true, false}
@@ -13,7 +13,6 @@ use Rattle.blob.specs.Reading.{Outcome, stop, done, refused, choose, demand, run
 use Rattle.format.specs.Refuse.{not_utf16}
 use Rattle.format.specs.Name.{high, low, text}
 use Rattle.format.specs.declared.Name.{Name}
-use Rattle.blob.specs.declared.Verdict.TheVariants as verdicts
 
 -- whether what is a surrogate is a high one with a low one behind it
 abbrev pub pairs : List ℕ → ℕ → ℕ → Bool
@@ -32,7 +31,7 @@ lows s at = ((below (le 2 s at) + below (le 2 s (at + 2))) + below (le 2 s (at +
 abbrev pub texted : (f o n r : ℕ) → Outcome Name
 texted f o n r = choose (leb r n) (done (record { start = o + 4; units = r; ended = ltb r n })) (refused ((not_utf16 f o).told 0))
 
-pub texted-fine : (f o n r : ℕ) → verdict (texted f o n r) ≡ verdicts.Fine → texted f o n r ≡ done (record { start = o + 4; units = r; ended = ltb r n })
+pub texted-fine : (f o n r : ℕ) → verdict (texted f o n r) ≡ Ok tt → texted f o n r ≡ done (record { start = o + 4; units = r; ended = ltb r n })
 texted-fine f o n r v = let m = fine-value (texted f o n r) v in m.1 ∙ sym (choose-done (leb r n) _ _ m.0 m.1).1
 
 -- a unit within two bounds, below the first, and past the second

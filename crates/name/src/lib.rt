@@ -9,7 +9,7 @@ ghost use Rattle.format.specs.Name as spec;
 ghost use Rattle.format.specs.Region.{until};
 ghost use Rattle.name.specs.Text.{pairs, below, lows, texted};
 
-use blob::Verdict;
+use blob::Refusal;
 use format::Name;
 
 // Whether a surrogate is a high one with a low one behind it; so many units are left, the surrogate among them.
@@ -100,44 +100,44 @@ pub fn absent() -> Name
 }
 
 // Whether the name at an offset that is not 0 is fine.
-fn check_sized(b: &[u8], end: usize, field: u8, offset: u32) -> Verdict
+fn check_sized(b: &[u8], end: usize, field: u8, offset: u32) -> Result<(), Refusal>
     requires { (end ≤ length b.now) × (length b.now ≤ 16777216) }
     ensures { result ≡ verdict (run (sized (until end) field offset) b.now) }
 {
     let at = offset as usize;
     if end < at {
-        return Verdict::Refused(bounds::offset_out(end, field, at));
+        return Err(bounds::offset_out(end, field, at));
     }
     let room = end - at;
     if room < 4 {
-        return Verdict::Refused(bounds::truncated(end, field, at, 4));
+        return Err(bounds::truncated(end, field, at, 4));
     }
     let size = blob::word(b, at);
     if size < 4 {
-        return Verdict::Refused(bounds::size_out(field, at, size));
+        return Err(bounds::size_out(field, at, size));
     }
     let needed = size as usize;
     if room < needed {
-        return Verdict::Refused(bounds::truncated(end, field, at, needed));
+        return Err(bounds::truncated(end, field, at, needed));
     }
     if size % 2 != 0 {
-        return Verdict::Refused(bounds::not_utf16(field, at));
+        return Err(bounds::not_utf16(field, at));
     }
     let n = (size - 4) / 2;
     if n < units(b, field, offset, n) {
-        return Verdict::Refused(bounds::not_utf16(field, at));
+        return Err(bounds::not_utf16(field, at));
     }
-    Verdict::Fine
+    Ok(())
 }
 
 // Whether the name at an offset is fine, in a region that ends at `end`. The callers test the blob's length first, so that a text's start
 // fits 32 bits.
-pub fn check(b: &[u8], end: usize, field: u8, offset: u32) -> Verdict
+pub fn check(b: &[u8], end: usize, field: u8, offset: u32) -> Result<(), Refusal>
     requires { (end ≤ length b.now) × (length b.now ≤ 16777216) }
     ensures { result ≡ verdict (run (name_at (until end) field offset) b.now) }
 {
     if offset == 0 {
-        return Verdict::Fine;
+        return Ok(());
     }
     check_sized(b, end, field, offset)
 }
@@ -145,7 +145,7 @@ pub fn check(b: &[u8], end: usize, field: u8, offset: u32) -> Verdict
 // The name at an offset that `check` found fine.
 pub fn name_of(b: &[u8], end: usize, field: u8, offset: u32) -> Name
     requires end_in_bounds { (end ≤ length b.now) × (length b.now ≤ 16777216) }
-    requires b_value { verdict (run (name_at (until end) field offset) b.now) ≡ Verdict.Fine }
+    requires b_value { verdict (run (name_at (until end) field offset) b.now) ≡ Ok tt }
     ensures { run (name_at (until end) field offset) b.now ≡ done result }
 {
     if offset == 0 {

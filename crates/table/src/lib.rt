@@ -6,9 +6,10 @@ ghost use Rattle.blob.specs.Reading.{run};
 ghost use Rattle.format.specs.Table as spec;
 ghost use Rattle.format.specs.Region.{end_read};
 
+use blob::Refusal;
 use format::field::{TABLE_ARRAY, TABLE_HEADER, TABLE_OFFSET, TABLE_SIZE};
 use format::kind::{CHAN, EVNT, KEYW, LEVL, MAPS, OPCO, TASK, TTBL};
-use format::{EndRead, Header, HeaderRead, signature};
+use format::{Header, signature};
 
 // The signature of a kind; 0 where it has none.
 fn signature(kind: u32) -> u32
@@ -73,35 +74,30 @@ fn field(first: u8, kind: u32) -> u8
 }
 
 // The header of the table of a kind at a place.
-pub fn header_at(b: &[u8], kind: u32, at: usize) -> HeaderRead
+pub fn header_at(b: &[u8], kind: u32, at: usize) -> Result<Header, Refusal>
     requires { (1 ≤ kind) × (kind ≤ 8) }
     ensures { result ≡ spec.header_read (run (spec.header_at kind at) b.now) }
 {
     if b.len() < at {
-        return HeaderRead::Refused(bounds::offset_out(b.len(), field(TABLE_OFFSET, kind), at));
+        return Err(bounds::offset_out(b.len(), field(TABLE_OFFSET, kind), at));
     }
     let needed = header_length(kind) as usize;
     if b.len() - at < needed {
-        return HeaderRead::Refused(bounds::truncated(
-            b.len(),
-            field(TABLE_HEADER, kind),
-            at,
-            needed,
-        ));
+        return Err(bounds::truncated(b.len(), field(TABLE_HEADER, kind), at, needed));
     }
     let found = blob::word(b, at);
     let expected = signature(kind);
     if found != expected {
-        return HeaderRead::Refused(bounds::wrong_signature(at, expected, found));
+        return Err(bounds::wrong_signature(at, expected, found));
     }
-    HeaderRead::Header(Header {
+    Ok(Header {
         size: blob::word(b, at + 4),
         count: blob::word(b, at + 8),
     })
 }
 
 // Where a table of records ends whose header has been read.
-pub fn table_end(b: &[u8], kind: u32, at: usize, h: Header) -> EndRead
+pub fn table_end(b: &[u8], kind: u32, at: usize, h: Header) -> Result<usize, Refusal>
     requires le_kind { (1 ≤ kind) × (kind ≤ 8) × (at + spec.header_length kind ≤ length b.now) }
     requires b_len_bound { length b.now ≤ 16777216 }
     ensures { result ≡ end_read (λ e. e) (run (spec.table_end kind at h) b.now) }
@@ -111,21 +107,13 @@ pub fn table_end(b: &[u8], kind: u32, at: usize, h: Header) -> EndRead
     let bytes = records_length(kind, h.count);
     if h.size == 0 {
         if b.len() - start < bytes {
-            return EndRead::Refused(bounds::truncated(
-                b.len(),
-                field(TABLE_ARRAY, kind),
-                start,
-                bytes,
-            ));
+            return Err(bounds::truncated(b.len(), field(TABLE_ARRAY, kind), start, bytes));
         }
-        return EndRead::End(start + bytes);
+        return Ok(start + bytes);
     }
-    let bound = bounds::bounded(b, field(TABLE_SIZE, kind), at, h.size, least);
-    let EndRead::End(end) = bound else {
-        return bound;
-    };
+    let end = bounds::bounded(b, field(TABLE_SIZE, kind), at, h.size, least)?;
     if end < start + bytes {
-        return EndRead::Refused(bounds::size_out(field(TABLE_ARRAY, kind), at, h.size));
+        return Err(bounds::size_out(field(TABLE_ARRAY, kind), at, h.size));
     }
-    EndRead::End(end)
+    Ok(end)
 }

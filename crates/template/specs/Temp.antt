@@ -1,11 +1,10 @@
 -- What a TEMP that was read is: its words, and a size that ends in its region.
-use Rattle.std.specs.Prelude.{ℕ, ◌+◌, ◌-◌, ◌≤◌, ◌≡◌, Bool, true, false, not, ◌||◌, leb, ltb, eqb, length}
+use Rattle.std.specs.Prelude.{ℕ, ◌+◌, ◌-◌, ◌≤◌, ◌≡◌, Bool, true, false, not, ◌||◌, leb, ltb, eqb, length, Ok, Err}
 use Rattle.std.proofs.Math.Path.{refl, ap, sym}
 use Rattle.std.proofs.Common.{◌∙◌, arith}
 use mathlib.Core.List.{List}
 use borrow.Author.Tests.{leb-true, eqb-true}
 use Rattle.blob.specs.declared.Refusal.{Refusal}
-use Rattle.blob.specs.declared.Verdict.TheVariants as verdicts
 use Rattle.blob.specs.Le.{le}
 use Rattle.blob.specs.Reading.{Outcome, done, refused, choose, run, then, verdict}
 use Rattle.blob.proofs.Laws.{never, same, fine-value, refused-value, run_bind, run-number, run-demand, run-got}
@@ -68,7 +67,7 @@ items-stand at size offset s t = go (eqb offset 0) (ltb offset at) (leb (offset 
 -- where the counts are right, the items' place decides, and then the items
 module _ (at size : ℕ) (s : List ℕ) (descriptors names offset : ℕ) (i : Items)
     (ed : descriptors ≡ le 4 s (at + 8)) (en : names ≡ le 4 s (at + 12)) (eo : offset ≡ le 4 s (at + 16)) (ei : i ≡ items_of (blob_place at) size (blob_place offset)) where
-  pub items-inside : verdict (run (items_at size i) s) ≡ verdicts.Fine → offset ≤ at + size
+  pub items-inside : verdict (run (items_at size i) s) ≡ Ok tt → offset ≤ at + size
   items-inside v = let t = fine-value _ v in (items-stand at size offset s t.0 (ap (λ j. run (items_at size j) s) (sym ei) ∙ t.1)).1
 
   module _ (h : (not (eqb descriptors 0) || eqb names 0) ≡ true) where
@@ -84,11 +83,11 @@ module _ (at size : ℕ) (s : List ℕ) (descriptors names offset : ℕ) (i : It
         go (done t) (refused r) f = refl
         go (refused r) p f = refl
 
-    pub fields_refused : (r : Refusal) → verdicts.Refused r ≡ verdict (run (items_at size i) s) → verdicts.Refused r ≡ verdict (run (template_fields at size) s)
+    pub fields_refused : (r : Refusal) → Err r ≡ verdict (run (items_at size i) s) → Err r ≡ verdict (run (template_fields at size) s)
     unfolding then
     fields_refused r v = sym (in_turn ∙ ap (λ o. verdict (then o (λ t. run (items_from at (at + size) descriptors offset) s))) (refused-value (run (items_at size i) s) r v))
 
-    pub fields_items : verdict (run (items_at size i) s) ≡ verdicts.Fine
+    pub fields_items : verdict (run (items_at size i) s) ≡ Ok tt
         → verdict (run (template_fields at size) s) ≡ verdict (run (items_from at (at + size) descriptors offset) s)
     unfolding then
     fields_items v = in_turn ∙ ap (λ o. verdict (then o (λ t. run (items_from at (at + size) descriptors offset) s))) (fine-value (run (items_at size i) s) v).1
@@ -117,7 +116,7 @@ module _ (e at : ℕ) (s : List ℕ) (size : ℕ) (es : size ≡ le 4 s (at + 4)
       finds_bind (λ is. run (items_from at (at + found) n offset) s ≡ done is) (record { found = λ is x. x }) (λ is ei.
       finds-got (rw (es ∙ sym ef) (record { header = leb-true _ _ h; least = leb-true _ _ l; ends = leb-true _ _ w }, cc, cc))))))))))))))))
 
-  pub fine-template : verdict (run (template_at (until e) at) s) ≡ verdicts.Fine → Fine e at size s
+  pub fine-template : verdict (run (template_at (until e) at) s) ≡ Ok tt → Fine e at size s
   fine-template v =
       let f = fine-value _ v in
       let g = template_found.found f.0 f.1 in

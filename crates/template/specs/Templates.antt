@@ -1,13 +1,12 @@
 -- TEMPs one after another: the first of those that are fine, how many turns they take, and what the region's end makes of all.
 use Prim.{Unit, tt}
 use Prim.Native.Nat.{ℕ, suc, ◌+◌, ◌-◌, ◌*◌, ◌≤◌, ◌<◌}
-use Rattle.std.specs.Prelude.{◌≡◌, List, map, Bool, true, false, length, eqb}
+use Rattle.std.specs.Prelude.{◌≡◌, List, map, Bool, true, false, length, eqb, Ok, Err}
 use Rattle.std.proofs.Math.Path.{refl, ap}
 use Rattle.std.proofs.Common.{sym, ◌∙◌}
 use native.Mathlib.Omega.{arith}
 use borrow.Author.Tests.{eq-eqb, ne_eqb}
 use Rattle.blob.specs.declared.Refusal.{Refusal}
-use Rattle.blob.specs.declared.Verdict.TheVariants as verdicts
 use Rattle.blob.specs.Le.{le}
 use Rattle.blob.specs.Reading.{refused, choose, many, run, verdict, values}
 use Rattle.blob.proofs.Laws.{many-first, many-same, values-more, fill_more, length-flat}
@@ -21,17 +20,16 @@ use Rattle.format.specs.Lists.{item_words, item_list}
 use Rattle.format.specs.Steps.Needs.{total, item_count}
 use Rattle.format.proofs.Theorems.Ends.{region-bounds}
 use Rattle.format.proofs.Theorems.Until.{template_until, region-told, region-refused}
-use Rattle.format.specs.declared.EndRead.TheVariants as ends
 use Rattle.format.specs.declared.Header.{Header}
 use Rattle.template.specs.Temp.{Fine, items_of_temp, fine-template, fine-count}
 
 -- the first of some that are fine is one
-pub first_fine : (e left at : ℕ) (s : List ℕ) (size : ℕ) → size ≡ le 4 s (at + 4) → 0 < left → verdict (run (many (template_at (until e)) next left at) s) ≡ verdicts.Fine
+pub first_fine : (e left at : ℕ) (s : List ℕ) (size : ℕ) → size ≡ le 4 s (at + 4) → 0 < left → verdict (run (many (template_at (until e)) next left at) s) ≡ Ok tt
     → Fine e at size s
 first_fine e left at s size es h v = fine-template e at s size es (many-first _ next left at s h v)
 
 -- what the items of the first one make of those that are left: their number, and their words
-module _ (e left at : ℕ) (s : List ℕ) (size : ℕ) (es : size ≡ le 4 s (at + 4)) (h : 0 < left) (v : verdict (run (many (template_at (until e)) next left at) s) ≡ verdicts.Fine) where
+module _ (e left at : ℕ) (s : List ℕ) (size : ℕ) (es : size ≡ le 4 s (at + 4)) (h : 0 < left) (v : verdict (run (many (template_at (until e)) next left at) s) ≡ Ok tt) where
   abbrev all : List Template
   all = values (run (many (template_at (until e)) next left at) s)
 
@@ -74,12 +72,12 @@ module _ (s : List ℕ) where
 
 -- the TEMPs of a TTBL are those until the end that the code was told
 module _ (at : ℕ) (h : Header) (s : List ℕ) where
-  pub templates-told : (e : ℕ) → ends.End e ≡ end_read (end (length s)) (run (region_at (table_size TTBL) at h.size 12) s)
+  pub templates-told : (e : ℕ) → Ok e ≡ end_read (end (length s)) (run (region_at (table_size TTBL) at h.size 12) s)
       → run (templates_at at h) s ≡ run (many (template_at (until e)) next h.count (at + 12)) s
   unfolding templates_at
   templates-told e g = region-told _ _ s e (λ region. many-same _ _ next (λ p. Unit {0}) s (λ p u. template_until region p s) (λ a p u. tt) h.count (at + 12) tt) g
 
-  pub templates-refused : (x : Refusal) → ends.Refused x ≡ end_read (end (length s)) (run (region_at (table_size TTBL) at h.size 12) s)
+  pub templates-refused : (x : Refusal) → Err x ≡ end_read (end (length s)) (run (region_at (table_size TTBL) at h.size 12) s)
       → run (templates_at at h) s ≡ refused x
   unfolding templates_at
   templates-refused x g = region-refused _ _ s x g
@@ -90,7 +88,7 @@ pub record Ends (at : ℕ) (h : Header) (s : List ℕ) (e : ℕ) : Type 0 where
   pub inside : e ≤ length s
   pub told : run (templates_at at h) s ≡ run (many (template_at (until e)) next h.count (at + 12)) s
 
-pub ends_there : (at : ℕ) (h : Header) (s : List ℕ) (e : ℕ) → at + 12 ≤ length s → ends.End e ≡ end_read (end (length s)) (run (region_at (table_size TTBL) at h.size 12) s) → Ends at h s e
+pub ends_there : (at : ℕ) (h : Header) (s : List ℕ) (e : ℕ) → at + 12 ≤ length s → Ok e ≡ end_read (end (length s)) (run (region_at (table_size TTBL) at h.size 12) s) → Ends at h s e
 ends_there at h s e w g =
     let b = region-bounds _ _ _ 12 _ w _ g in
     record { behind = b.0; inside = b.1; told = templates-told at h s e g }

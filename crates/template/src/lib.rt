@@ -15,14 +15,14 @@ ghost use Rattle.format.specs.Lists.{template_words, item_list};
 ghost use Rattle.format.specs.Steps.Needs.{item_count, templates_read};
 ghost use Rattle.template.specs.Temp.{binxml_length, template_of};
 
-use blob::Verdict;
+use blob::Refusal;
 use format::field::{
     TEMP_HEADER, TEMP_ITEM_NAME_COUNT_EXPECTED_0, TEMP_SIZE, TEMP_TEMPLATE_ITEMS_OFFSET,
     TEMP_TEMPLATE_ITEMS_OFFSET_RELATIVE, TTBL_SIZE,
 };
 use format::list::width;
 use format::signature::TEMP;
-use format::{BlobPlace, EndRead, EntriesRead, Header, Items, TemplatePlace};
+use format::{BlobPlace, Header, Items, TemplatePlace};
 use words::guid_at;
 
 // Where a TEMP's items stand, from the TEMP's place, its size and its items offset.
@@ -43,17 +43,17 @@ fn items_of(temp: BlobPlace, size: u32, offset: BlobPlace) -> Items
 }
 
 // Whether the items of a TEMP of some size stand in it. One past its end is told from the TEMP's start, against its size.
-fn items_at(b: &[u8], size: u32, items: Items) -> Verdict
+fn items_at(b: &[u8], size: u32, items: Items) -> Result<(), Refusal>
     ensures { result ≡ verdict (run (items_at size items) b.now) }
 {
     match items {
-        Items::At(_) => Verdict::Fine,
-        Items::Before(p) => Verdict::Refused(bounds::offset_out(
+        Items::At(_) => Ok(()),
+        Items::Before(p) => Err(bounds::offset_out(
             b.len(),
             TEMP_TEMPLATE_ITEMS_OFFSET,
             p.0 as usize,
         )),
-        Items::Past(t) => Verdict::Refused(bounds::offset_out(
+        Items::Past(t) => Err(bounds::offset_out(
             size as usize,
             TEMP_TEMPLATE_ITEMS_OFFSET_RELATIVE,
             t.0 as usize,
@@ -62,43 +62,40 @@ fn items_at(b: &[u8], size: u32, items: Items) -> Verdict
 }
 
 // Whether the counts and the items of a TEMP are right, whose size is.
-fn check_fields(b: &[u8], at: usize, size: u32) -> Verdict
+fn check_fields(b: &[u8], at: usize, size: u32) -> Result<(), Refusal>
     requires { (at + 40 ≤ length b.now) × (at + size ≤ length b.now) × (length b.now ≤ 16777216) }
     ensures { result ≡ verdict (run (template_fields at size) b.now) }
 {
     let descriptors = blob::word(b, at + 8);
     let names = blob::word(b, at + 12);
     if descriptors == 0 && names != 0 {
-        return Verdict::Refused(bounds::count_out(TEMP_ITEM_NAME_COUNT_EXPECTED_0, at + 12, names));
+        return Err(bounds::count_out(TEMP_ITEM_NAME_COUNT_EXPECTED_0, at + 12, names));
     }
     let offset = blob::word(b, at + 16);
     let temp = at as u32;
-    let found = items_at(b, size, items_of(BlobPlace(temp), size, BlobPlace(offset)));
-    if let Verdict::Refused(r) = found {
-        return Verdict::Refused(r);
-    }
+    items_at(b, size, items_of(BlobPlace(temp), size, BlobPlace(offset)))?;
     // Without items nothing can be wrong with them: the call, which TEMPs in a row would notice, is not made.
     if descriptors == 0 {
-        return Verdict::Fine;
+        return Ok(());
     }
     item::check(b, temp, at + size as usize, descriptors, offset)
 }
 
 // Whether a TEMP of some size is right whose header stands in a region.
-fn check_temp(b: &[u8], end: usize, at: usize, size: u32) -> Verdict
+fn check_temp(b: &[u8], end: usize, at: usize, size: u32) -> Result<(), Refusal>
     requires at_bound { (at + 40 ≤ end) × (end ≤ length b.now) × (length b.now ≤ 16777216) }
     requires size_value { size ≡ le 4 b.now (at + 4) }
     ensures { result ≡ verdict (run (template_at (until end) at) b.now) }
 {
     let found = blob::word(b, at);
     if found != TEMP {
-        return Verdict::Refused(bounds::wrong_signature(at, TEMP, found));
+        return Err(bounds::wrong_signature(at, TEMP, found));
     }
     if size < 40 {
-        return Verdict::Refused(bounds::size_out(TEMP_SIZE, at, size));
+        return Err(bounds::size_out(TEMP_SIZE, at, size));
     }
     if end - at < size as usize {
-        return Verdict::Refused(bounds::size_out(TEMP_SIZE, at, size));
+        return Err(bounds::size_out(TEMP_SIZE, at, size));
     }
     check_fields(b, at, size)
 }
@@ -106,7 +103,7 @@ fn check_temp(b: &[u8], end: usize, at: usize, size: u32) -> Verdict
 // Whether n TEMPs stand one after another from a place of a region on, and how many items they have. The step is the size of the TEMP
 // before, where this one's is the same, so that the processor need not wait for the word that it reads; where not, it is the new one and
 // the TEMP is looked at again. (With a `continue` for the `else`, the compiler steps by the word again.)
-fn check_until(b: &[u8], end: usize, start: usize, n: u32) -> EntriesRead
+fn check_until(b: &[u8], end: usize, start: usize, n: u32) -> Result<u32, Refusal>
     requires { (start ≤ end) × (end ≤ length b.now) × (length b.now ≤ 16777216) }
     ensures { result ≡ templates_read (run (many (template_at (until end)) next n start) b.now) }
 {
@@ -116,14 +113,11 @@ fn check_until(b: &[u8], end: usize, start: usize, n: u32) -> EntriesRead
     let mut items = 0;
     while 0 < left {
         if end - at < 40 {
-            return EntriesRead::Refused(bounds::truncated(end, TEMP_HEADER, at, 40));
+            return Err(bounds::truncated(end, TEMP_HEADER, at, 40));
         }
         let size = blob::word(b, at + 4);
         if size == same {
-            let found = check_temp(b, end, at, same);
-            if let Verdict::Refused(r) = found {
-                return EntriesRead::Refused(r);
-            }
+            check_temp(b, end, at, same)?;
             items = bounds::sum(items, blob::word(b, at + 8));
             at += same as usize;
             left -= 1;
@@ -131,19 +125,16 @@ fn check_until(b: &[u8], end: usize, start: usize, n: u32) -> EntriesRead
             same = size;
         }
     }
-    EntriesRead::Entries(items)
+    Ok(items)
 }
 
 // Whether the TEMPs of the TTBL whose header stands at a place are right, and how many items they have, where it stops rising at 65,537.
-pub fn check(b: &[u8], at: usize, h: Header) -> EntriesRead
+pub fn check(b: &[u8], at: usize, h: Header) -> Result<u32, Refusal>
     requires { (at + 12 ≤ length b.now) × (length b.now ≤ 16777216) }
     ensures { result ≡ templates_read (run (templates_at at h) b.now) }
 {
-    let region = bounds::region_end(b, TTBL_SIZE, at, h.size, 12);
-    match region {
-        EndRead::Refused(r) => EntriesRead::Refused(r),
-        EndRead::End(end) => check_until(b, end, at + 12, h.count),
-    }
+    let end = bounds::region_end(b, TTBL_SIZE, at, h.size, 12)?;
+    check_until(b, end, at + 12, h.count)
 }
 
 // How long the BinXML of a TEMP is: from its start to the items, which stand at the TEMP's end where their offset is 0.
@@ -192,7 +183,7 @@ fn put(b: &[u8], at: usize, size: u32, provider: u32, area: &mut [u32], to: usiz
 fn fill_until(b: &[u8], end: usize, start: usize, n: u32, provider: u32, area: &mut [u32])
     requires start_le_end { (start ≤ end) × (end ≤ length b.now) × (length b.now ≤ 16777216) }
     requires n_in_bounds { width TEMPLATES * n ≤ length area.old }
-    requires b_value { verdict (run (many (template_at (until end)) next n start) b.now) ≡ Verdict.Fine }
+    requires b_value { verdict (run (many (template_at (until end)) next n start) b.now) ≡ Ok tt }
     ensures { area.new ≡ laid area.old 0 (flat (template_words provider) (values (run (many (template_at (until end)) next n start) b.now))) }
 {
     let mut at = start;
@@ -215,20 +206,17 @@ fn fill_until(b: &[u8], end: usize, start: usize, n: u32, provider: u32, area: &
 // Where the region of a TTBL ends that `check` found fine.
 fn region_of(b: &[u8], at: usize, h: Header) -> usize
     requires at_in_bounds { (at + 12 ≤ length b.now) × (length b.now ≤ 16777216) }
-    requires b_value { verdict (run (templates_at at h) b.now) ≡ Verdict.Fine }
-    ensures { EndRead.End result ≡ end_read (end (length b.now)) (run (region_at (table_size TTBL) at h.size 12) b.now) }
+    requires b_value { verdict (run (templates_at at h) b.now) ≡ Ok tt }
+    ensures { Ok result ≡ end_read (end (length b.now)) (run (region_at (table_size TTBL) at h.size 12) b.now) }
 {
-    match bounds::region_end(b, TTBL_SIZE, at, h.size, 12) {
-        EndRead::Refused(_) => 0,
-        EndRead::End(end) => end,
-    }
+    bounds::region_end(b, TTBL_SIZE, at, h.size, 12).unwrap()
 }
 
 // Stores the words of the TEMPs of a TTBL that `check` found fine, of the provider with a number.
 pub fn fill(b: &[u8], at: usize, h: Header, provider: u32, area: &mut [u32])
     requires at_in_bounds { (at + 12 ≤ length b.now) × (length b.now ≤ 16777216) }
     requires count_in_bounds { width TEMPLATES * h.count ≤ length area.old }
-    requires b_value { verdict (run (templates_at at h) b.now) ≡ Verdict.Fine }
+    requires b_value { verdict (run (templates_at at h) b.now) ≡ Ok tt }
     ensures { area.new ≡ laid area.old 0 (flat (template_words provider) (values (run (templates_at at h) b.now))) }
 {
     fill_until(b, region_of(b, at, h), at + 12, h.count, provider, area);
@@ -245,7 +233,7 @@ fn fill_items_until(
     area: &mut [u32],
 ) -> usize
     requires start_le_end { (start ≤ end) × (end ≤ length b.now) × (length b.now ≤ 16777216) × (first + n ≤ 65536) }
-    requires b_value { verdict (run (many (template_at (until end)) next n start) b.now) ≡ Verdict.Fine }
+    requires b_value { verdict (run (many (template_at (until end)) next n start) b.now) ≡ Ok tt }
     requires b_in_bounds { width ITEMS * item_count (values (run (many (template_at (until end)) next n start) b.now)) ≤ length area.old }
     ensures value { result ≡ width ITEMS * item_count (values (run (many (template_at (until end)) next n start) b.now)) }
     ensures area_after { area.new ≡ laid area.old 0 (flat (λ e. e) (item_list first (values (run (many (template_at (until end)) next n start) b.now)))) }
@@ -278,7 +266,7 @@ fn fill_items_until(
 // Stores the words of the items of a TTBL that `check` found fine, the first of whose templates has a number.
 pub fn fill_items(b: &[u8], at: usize, h: Header, first: u32, area: &mut [u32]) -> usize
     requires at_in_bounds { (at + 12 ≤ length b.now) × (length b.now ≤ 16777216) × (first + h.count ≤ 65536) }
-    requires b_value { verdict (run (templates_at at h) b.now) ≡ Verdict.Fine }
+    requires b_value { verdict (run (templates_at at h) b.now) ≡ Ok tt }
     requires b_in_bounds { width ITEMS * item_count (values (run (templates_at at h) b.now)) ≤ length area.old }
     ensures value { result ≡ width ITEMS * item_count (values (run (templates_at at h) b.now)) }
     ensures area_after { area.new ≡ laid area.old 0 (flat (λ e. e) (item_list first (values (run (templates_at at h) b.now)))) }

@@ -7,8 +7,8 @@ use Rattle.format.specs.Region.{bounded}
 use Rattle.bounds.proofs.bounded.Goals as goal
 use Rattle.bounds.proofs.bounded.Goals.{then-least-size+else-has_room, else-least-size}
 
-pub overflow_add-end : goal.overflow_add-end
-overflow_add-end c =
+pub overflow_add-result : goal.overflow_add-result
+overflow_add-result c =
     let a = c.args in
     omega (arith, leb-true (a.at + a.size) (length a.b.now) (sym c.has_room.ensures ∙ c.if-has_room.true))
 

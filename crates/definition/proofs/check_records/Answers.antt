@@ -1,39 +1,26 @@
--- The invariant: what is left decides. The verdict of the records that are left is that of all.
+-- What is left decides: the verdict of the records that are left is that of all.
 use mathlib.Core.Path.{sym, ◌∙◌}
 use native.Mathlib.Omega.{arith}
 use borrow.Author.Rules.{rules}
-use Rattle.blob.proofs.Laws.{many_more, many-stop, many-none}
+use Rattle.blob.proofs.Laws.{handed_on, many_next, many-stop, many-none}
 use Rattle.format.specs.Definition.{definition_at, step}
-use Rattle.definition.specs.Records.{one_less, record_refused, record_found}
+use Rattle.definition.specs.Records.{record_refused, record_found}
 use Rattle.definition.proofs.check_records.Goals as goal
 
-pub loop-left-init : goal.loop-left-init
-loop-left-init c = let e = c.stride-bytes.ensures.0 in (rw e (search rules), rw e)
+pub loop-i-init : goal.loop-i-init
+loop-i-init c = let e = c.stride-bytes.ensures.0 in rw e (search rules)
 
-pub overflow_add-at : goal.overflow_add-at
-overflow_add-at c =
-    omega (arith, one_less c.stride-bytes.result c.loop-left.left c.loop-left-test.true)
+pub returns-in_err-check : goal.returns-in_err-check
+returns-in_err-check c =
+    handed_on c.from_residual.ensures.1
+    (sym (c.loop-i.invariant
+    ∙ many-stop (definition_at _) (step _) _ _ _ _ (omega arith)
+    (record_refused _ _ _ _ c.name_field-field.ensures _ c.name_place-place.ensures.0 _ c.word-offset.ensures _ c.in_err-check.ensures)))
 
-pub word-offset-requires : goal.word-offset-requires
-word-offset-requires c =
-    omega (arith, one_less c.stride-bytes.result c.loop-left.left c.loop-left-test.true)
-
-pub returns-in-Refused : goal.returns-in-Refused
-returns-in-Refused c =
-    sym (c.loop-left.invariant.1
-    ∙ many-stop (definition_at _) (step _) _ _ _ _ c.loop-left-test.true
-    (record_refused _ _ _ _ c.name_field-field.ensures _ c.name_place-place.ensures.0 _ c.word-offset.ensures _ (sym c.in-Refused.is ∙ c.check-found.ensures)))
-
-pub overflow_add-at-in-loop-left : goal.overflow_add-at-in-loop-left
-overflow_add-at-in-loop-left c =
-    omega (arith, one_less c.stride-bytes.result c.loop-left.left c.loop-left-test.true)
-
-pub loop-left-preserved : goal.loop-left-preserved
-loop-left-preserved c =
-    let found = record_found _ _ _ _ c.name_field-field.ensures _ c.name_place-place.ensures.0 _ c.word-offset.ensures (sym c.in_default.is ∙ c.check-found.ensures) in (
-      omega (arith, one_less c.stride-bytes.result c.loop-left.left c.loop-left-test.true),
-      c.loop-left.invariant.1 ∙ many_more (definition_at _) (step _) _ _ _ _ c.loop-left-test.true found.1,
-    )
+pub loop-i-preserved : goal.loop-i-preserved
+loop-i-preserved c =
+    let found = record_found _ _ _ _ c.name_field-field.ensures _ c.name_place-place.ensures.0 _ c.word-offset.ensures c.in_ok-check.ensures in
+    c.loop-i.invariant ∙ many_next (definition_at _) (step _) _ _ _ _ _ _ (omega arith) found.1 (omega arith)
 
 pub returns : goal.returns
-returns c = sym (c.loop-left.invariant.1 ∙ many-none (definition_at _) (step _) _ _ _ c.loop-left-test.false)
+returns c = sym (c.loop-i.invariant ∙ many-none (definition_at _) (step _) _ _ _ (omega arith))

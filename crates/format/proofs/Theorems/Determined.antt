@@ -1,6 +1,6 @@
 -- Nothing is left open: the answer and the lent words are functions of the blob, the words and the capacities, so any two answers that
 -- the contract allows are equal; each count is the length of its list, and a refusal's are zero.
-use Rattle.std.specs.Prelude.{ℕ, ◌≡◌, refl, List, map, length}
+use Rattle.std.specs.Prelude.{ℕ, ◌≡◌, refl, List, map, length, Result, Option}
 use Rattle.std.proofs.Common.{sym, ◌∙◌}
 use Rattle.blob.specs.declared.Refusal.{Refusal}
 use Rattle.blob.specs.Reading.{done, refused}
@@ -13,8 +13,6 @@ use Rattle.format.specs.Handle.{AllowedPart}
 use Rattle.format.specs.Call.{AllowedRead, AllowedNeeds, AllowedTemplate, AllowedGuids}
 use Rattle.format.specs.declared.Answer.{Answer}
 use Rattle.format.specs.declared.Key.{Key}
-use Rattle.format.specs.declared.TemplateFound.{TemplateFound}
-use Rattle.format.specs.declared.GuidsFound.{GuidsFound}
 
 pub determined : (bytes words capacities : List ℕ) (a b : Answer) (after after' : List ℕ)
     → Allowed bytes words capacities a after → Allowed bytes words capacities b after' → (a ≡ b) × (after ≡ after')
@@ -25,11 +23,11 @@ needs_determined bytes a b h g = h.answered ∙ sym g.answered
 
 -- so of the lookups, and of what a handle shows
 module _ (words capacities counts : List ℕ) where
-  pub determined_at : (provider first count offset : ℕ) (f g : TemplateFound) → AllowedAt words capacities counts provider first count offset f
+  pub determined_at : (provider first count offset : ℕ) (f g : Result (Option ℕ) Refusal) → AllowedAt words capacities counts provider first count offset f
       → AllowedAt words capacities counts provider first count offset g → f ≡ g
   determined_at provider first count offset f g h k = h.answered ∙ sym k.answered
 
-  pub determined_for : (key : Key) (lent : List ℕ) (f g : GuidsFound) (after after' : List ℕ) → AllowedFor words capacities counts key lent f after
+  pub determined_for : (key : Key) (lent : List ℕ) (f g : Result ℕ Refusal) (after after' : List ℕ) → AllowedFor words capacities counts key lent f after
       → AllowedFor words capacities counts key lent g after' → (f ≡ g) × (after ≡ after')
   determined_for key lent f g after after' h k = (h.answered ∙ sym k.answered, h.kept ∙ sym k.kept)
 

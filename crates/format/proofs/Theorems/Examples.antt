@@ -1,6 +1,6 @@
 -- Computed examples of what the proved cases do not reach: the lent words after a reading, 9, replaced tables, names that run out, the
 -- words of a definition and of a map, the fields of an item, both lookups, the handle.
-use Rattle.std.specs.Prelude.{ℕ, ◌≡◌, refl, true, false, List, [], ◌∷◌, ◌++◌, map, length, get_or, replicate}
+use Rattle.std.specs.Prelude.{ℕ, ◌≡◌, refl, true, false, List, [], ◌∷◌, ◌++◌, map, length, get_or, replicate, Ok, Err, Some, None}
 use Rattle.blob.specs.Le.{le}
 use Rattle.blob.specs.Reading.{Outcome, done, refused, demand, run, ◌>>=◌, number}
 use Rattle.blob.specs.Laid.{laid, flat}
@@ -23,7 +23,6 @@ use Rattle.format.specs.declared.Definition.{Definition}
 use Rattle.format.specs.declared.Map.{Map}
 use Rattle.format.specs.declared.MapEntry.{MapEntry}
 use Rattle.format.specs.declared.Key.{Key}
-use Rattle.format.specs.declared.TemplateFound.TheVariants as template
 
 -- two areas one after another: the entries at each area's start, all other words kept
 areas-in_a_row : filled (replicate 9 7) 0 (record { number = 5; words = 2 } ∷ record { number = 9; words = 1 } ∷ []) (2 ∷ 2 ∷ []) (((1 ∷ 2 ∷ []) ∷ []) ∷ ((3 ∷ []) ∷ (4 ∷ []) ∷ []) ∷ [])
@@ -179,40 +178,40 @@ abbrev lookup : ℕ → ℕ → List ℕ → Outcome (List Entry)
 lookup kind version lent = by_key (words kind 0) some some (key version) lent
 
 -- the lowest template of an offset, within the range; none; a range past the list; a count over its capacity; too few words
-lowest : by_offset (words 8 0) some some 0 0 3 76 ≡ template.Number 1
+lowest : by_offset (words 8 0) some some 0 0 3 76 ≡ Ok (Some 1)
 unfolding by_offset moderate areas counts_fit entries_from position
 lowest = refl
 
-within-the_range : by_offset (words 8 0) some some 0 2 1 76 ≡ template.Number 2
+within-the_range : by_offset (words 8 0) some some 0 2 1 76 ≡ Ok (Some 2)
 unfolding by_offset moderate areas counts_fit entries_from position
 within-the_range = refl
 
-none-there : by_offset (words 8 0) some some 0 0 3 77 ≡ template.Nothing
+none-there : by_offset (words 8 0) some some 0 0 3 77 ≡ Ok None
 unfolding by_offset moderate areas counts_fit entries_from position
 none-there = refl
 
 -- another provider's at the offset is no match, and the search goes on behind it; the number is compared and no more
-anothers_passed : by_offset (words 8 7) some some 0 0 3 76 ≡ template.Number 2
+anothers_passed : by_offset (words 8 7) some some 0 0 3 76 ≡ Ok (Some 2)
 unfolding by_offset moderate areas counts_fit entries_from position
 anothers_passed = refl
 
-only-compared : by_offset (words 8 7) some some 7 0 3 76 ≡ template.Number 1
+only-compared : by_offset (words 8 7) some some 7 0 3 76 ≡ Ok (Some 1)
 unfolding by_offset moderate areas counts_fit entries_from position
 only-compared = refl
 
-none-of_it : by_offset (words 8 0) some some 7 0 3 76 ≡ template.Nothing
+none-of_it : by_offset (words 8 0) some some 7 0 3 76 ≡ Ok None
 unfolding by_offset moderate areas counts_fit entries_from position
 none-of_it = refl
 
-past_the_list : by_offset (words 8 0) some some 0 4 0 76 ≡ template.Refused (own 10)
+past_the_list : by_offset (words 8 0) some some 0 4 0 76 ≡ Err (own 10)
 unfolding by_offset moderate areas counts_fit
 past_the_list = refl
 
-over_capacity : by_offset (words 8 0) some one_map 0 0 3 76 ≡ template.Refused (own 10)
+over_capacity : by_offset (words 8 0) some one_map 0 0 3 76 ≡ Err (own 10)
 unfolding by_offset moderate areas counts_fit
 over_capacity = refl
 
-too_few_words : by_offset [] some some 0 4 0 76 ≡ template.Refused (own 8)
+too_few_words : by_offset [] some some 0 4 0 76 ≡ Err (own 8)
 unfolding by_offset moderate areas
 too_few_words = refl
 

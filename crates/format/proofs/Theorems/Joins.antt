@@ -1,6 +1,6 @@
 -- A reading's own lists always join: the lookups' tests find no fault in them, and the lookup by key gives the join of what was read.
 use Prim.{tt}
-use Rattle.std.specs.Prelude.{ℕ, zero, suc, ◌+◌, ◌/◌, ◌≤◌, ◌<◌, ◌≡◌, Bool, get_or, take, drop, leb, eqb}
+use Rattle.std.specs.Prelude.{ℕ, zero, suc, ◌+◌, ◌/◌, ◌≤◌, ◌<◌, ◌≡◌, Bool, get_or, take, drop, leb, eqb, Ok, Err, None}
 use Rattle.std.proofs.Math.Path.{refl, ap, ap₂, sym, subst}
 use Rattle.std.proofs.Common.{◌∙◌, zero-add, suc-add, add-one, arith, length-set, length-append, get_or-set_same, get_or-drop, ne_eqb, lt-ltb, le-leb}
 use Rattle.std.proofs.Math.Bool.{true, false}
@@ -31,7 +31,6 @@ use Rattle.format.proofs.Theorems.Ranges.{event_items, template_items, events-ra
 use Rattle.format.specs.declared.Answer.{Answer}
 use Rattle.format.specs.declared.Key.{Key}
 use Rattle.format.specs.Template.{Template}
-use Rattle.format.specs.declared.TemplateFound.TheVariants as template
 
 -- lists that have room have no count over its capacity
 room-counts : {A : Type 0} (a b : A) (rs : List Row) (cs : List ℕ) (ls : List (List Entry)) → with_room rs cs ls a ≡ done b → length cs ≡ length rs → length ls ≡ length rs
@@ -215,12 +214,12 @@ module _ (bytes words capacities : List ℕ) (c : Crim) (e : reading bytes words
       ≡ (let ts = get_or (lists c.providers) (place TEMPLATES) [] in
       choose (leb (first + count) (length ts))
       (numbered (position (matches provider offset) first (take count (drop first ts))))
-      (template.Refused (own 10)))
+      (Err (own 10)))
   unfolding by_offset lists
   offset-joins provider first count offset = rw (lent_still, counts-room, taken bytes words capacities c e n (place TEMPLATES) (omega arith))
 
   pub offset-nobodys : (provider first count offset : ℕ) → length c.providers ≤ provider → first + count ≤ length (get_or (lists c.providers) (place TEMPLATES) [])
-      → by_offset (held words capacities (done c)) capacities (counted (lists c.providers)) provider first count offset ≡ template.Nothing
+      → by_offset (held words capacities (done c)) capacities (counted (lists c.providers)) provider first count offset ≡ Ok None
   unfolding lists
   offset-nobodys provider first count offset h g =
       let ps = c.providers in

@@ -1,8 +1,8 @@
 -- How many entries a list needs, as far as anyone asks: no capacity is over 65,536, so a need may stop rising once it is past that.
-use Rattle.std.specs.Prelude.{ℕ, ◌+◌, ◌≤◌, List, [], ◌∷◌, map, length, set}
-use Rattle.blob.specs.declared.Verdict.TheVariants as verdicts
+use Rattle.std.specs.Prelude.{ℕ, ◌+◌, ◌≤◌, List, [], ◌∷◌, map, length, set, Ok, Err, Result}
+use Rattle.blob.specs.declared.Refusal.{Refusal}
 use Rattle.blob.specs.Places.{Each}
-use Rattle.blob.specs.Reading.{Outcome, answer}
+use Rattle.blob.specs.Reading.{Outcome, answer, as_result}
 use Rattle.blob.specs.Laid.{flat}
 use Rattle.format.specs.Area.{place, none, of}
 use Rattle.format.specs.Item.{Item}
@@ -12,9 +12,6 @@ use Rattle.format.specs.Provider.{Rows, definitions, events, maps, templates, Ta
 use Rattle.format.specs.Lists.{kept, unknowns, after, definitions_in, events_in, maps_in, templates_in}
 use Rattle.format.specs.Answer.{capped}
 use Rattle.format.specs.declared.MapEntry.{MapEntry}
-use Rattle.format.specs.declared.EntriesRead.{EntriesRead}
-use Rattle.format.specs.declared.EntriesRead.TheVariants as entries
-use Rattle.format.specs.declared.Needed.{Needed}
 
 -- how many all of them have
 unfoldable pub total : {A : Type 0} → (A → ℕ) → List A → ℕ
@@ -40,23 +37,23 @@ after_all before [] = before
 after_all before (t ∷ ts) = after_all (after before t.rows) ts
 
 -- what the code answers where something is counted: of a MAPS, of a TTBL, of any table and of an element
-abbrev pub count_read : {A : Type 0} → (A → ℕ) → Outcome A → EntriesRead
-count_read count o = answer (λ a. entries.Entries (capped (count a))) entries.Refused o
+abbrev pub count_read : {A : Type 0} → (A → ℕ) → Outcome A → Result ℕ Refusal
+count_read count o = as_result (λ a. capped (count a)) o
 
-abbrev pub maps_read : Outcome (List Mapped) → EntriesRead
+abbrev pub maps_read : Outcome (List Mapped) → Result ℕ Refusal
 maps_read o = count_read entry_count o
 
-abbrev pub templates_read : Outcome (List Template) → EntriesRead
+abbrev pub templates_read : Outcome (List Template) → Result ℕ Refusal
 templates_read o = count_read item_count o
 
-abbrev pub table_read : Outcome Table → EntriesRead
+abbrev pub table_read : Outcome Table → Result ℕ Refusal
 table_read o = count_read (λ t. inner t.rows) o
 
 abbrev pub entries_of : Element → ℕ
 entries_of (table t) = inner t.rows
 entries_of (unknown u) = 0
 
-abbrev pub element_read : Outcome Element → EntriesRead
+abbrev pub element_read : Outcome Element → Result ℕ Refusal
 element_read o = count_read entries_of o
 
 -- where a kept table stands; 4,294,967,295, which is no place of a blob, where none is kept
@@ -113,10 +110,8 @@ needs_all ns [] = ns
 needs_all ns (p ∷ ps) = needs_all (plus ns (needs_of p)) ps
 
 -- what the code answers for a provider, and for some
-abbrev pub provider_read : List ℕ → Outcome Provider → Needed
-provider_read ns o =
-    answer (λ p. record { verdict = verdicts.Fine; counts = plus ns (needs_of p) }) (λ r. record { verdict = verdicts.Refused r; counts = none }) o
+abbrev pub provider_read : List ℕ → Outcome Provider → Result (List ℕ) Refusal
+provider_read ns o = as_result (λ p. plus ns (needs_of p)) o
 
-abbrev pub providers_read : List ℕ → Outcome (List Provider) → Needed
-providers_read ns o =
-    answer (λ ps. record { verdict = verdicts.Fine; counts = needs_all ns ps }) (λ r. record { verdict = verdicts.Refused r; counts = none }) o
+abbrev pub providers_read : List ℕ → Outcome (List Provider) → Result (List ℕ) Refusal
+providers_read ns o = as_result (λ ps. needs_all ns ps) o

@@ -1,9 +1,9 @@
 -- An offset that is 0 or not before the TEMP passes the definition's test, and the name decides.
+use Rattle.std.specs.Prelude.{Err}
 use mathlib.Core.Path.{◌≡◌, refl, ap, sym, ◌∙◌}
 use mathlib.Core.Bool.{Bool, true, false, ◌||◌}
 use lib.Dec.{leb, eqb}
 use borrow.Author.Tests.{ne_eqb, eq-eqb, le-leb, lt-leb}
-use Rattle.blob.specs.declared.Verdict.TheVariants as verdicts
 use Rattle.blob.specs.Reading.{verdict}
 use Rattle.blob.proofs.Laws.{run_holds, run-fails}
 use Rattle.format.specs.Item.{item_name_at}
@@ -17,7 +17,7 @@ from_or false b h = h
 pub returns-then-offset-ne0 : goal.returns-then-offset-ne0
 unfolding item_name_at
 returns-then-offset-ne0 c =
-    ap verdicts.Refused c.offset_out.ensures ∙ sym (ap verdict (run-fails _ _ _ _ (rw (ne_eqb _ _ c.if-offset-ne0.true) (lt-leb _ _ c.if-offset-temp.true))))
+    ap Err c.offset_out.ensures ∙ sym (ap verdict (run-fails _ _ _ _ (rw (ne_eqb _ _ c.if-offset-ne0.true) (lt-leb _ _ c.if-offset-temp.true))))
 
 pub returns : goal.returns
 unfolding item_name_at

@@ -1,20 +1,21 @@
--- The invariant: what is left decides. The verdict of the items that are left is that of all.
+-- What is left decides: the verdict of the items that are left is that of all.
 use mathlib.Core.Path.{sym, ◌∙◌}
 use native.Mathlib.Omega.{arith}
-use Rattle.blob.proofs.Laws.{many_more, many-stop, many-none, refused-value, fine-value}
+use Rattle.blob.proofs.Laws.{handed_on, many_next, many-stop, many-none, refused-value, fine-value}
 use Rattle.format.specs.Definition.{step}
 use Rattle.item.specs.Items.{item_verdict}
 use Rattle.item.proofs.check_row.Goals as goal
 
-pub returns-in-Refused : goal.returns-in-Refused
-returns-in-Refused c =
-    sym (c.loop-left.invariant.1
-    ∙ many-stop _ (step 20) _ _ _ _ c.loop-left-test.true (refused-value _ _ (sym c.in-Refused.is ∙ c.check_name-found.ensures ∙ sym (item_verdict _ _ _ _ _ c.word.ensures))))
+pub returns-in_err-check_name : goal.returns-in_err-check_name
+returns-in_err-check_name c =
+    handed_on c.from_residual.ensures.1
+    (sym (c.loop-i.invariant
+    ∙ many-stop _ (step 20) _ _ _ _ (omega arith) (refused-value _ _ (c.in_err-check_name.ensures ∙ sym (item_verdict _ _ _ _ _ c.word.ensures)))))
 
-pub loop-left-preserved : goal.loop-left-preserved
-loop-left-preserved c =
-    let f = fine-value _ (item_verdict _ _ _ _ _ c.word.ensures ∙ sym c.check_name-found.ensures ∙ c.in_default.is) in
-    (omega arith, c.loop-left.invariant.1 ∙ many_more _ (step 20) _ _ _ _ c.loop-left-test.true f.1)
+pub loop-i-preserved : goal.loop-i-preserved
+loop-i-preserved c =
+    let f = fine-value _ (item_verdict _ _ _ _ _ c.word.ensures ∙ sym c.in_ok-check_name.ensures) in
+    c.loop-i.invariant ∙ many_next _ (step 20) _ _ _ _ _ _ (omega arith) f.1 (omega arith)
 
 pub returns : goal.returns
-returns c = sym (c.loop-left.invariant.1 ∙ many-none _ (step 20) _ _ _ c.loop-left-test.false)
+returns c = sym (c.loop-i.invariant ∙ many-none _ (step 20) _ _ _ (omega arith))

@@ -1,8 +1,8 @@
 -- The invariant: what is left decides. The items of the rest, laid from here, make the area what it shall be, and the rest is fine.
+use Rattle.std.specs.Prelude.{Ok}
 use Prim.Native.Nat.{◌+◌, ◌*◌, ◌≤◌}
 use mathlib.Core.Path.{◌≡◌}
 use lib.ListN.{length}
-use Rattle.blob.specs.declared.Verdict.TheVariants as verdicts
 use Rattle.blob.specs.Reading.{run, many, verdict, values}
 use Rattle.blob.specs.Laid.{laid, flat}
 use Rattle.format.specs.Area.{ITEMS, width}
@@ -18,7 +18,7 @@ invariant-loop-left l =
     × (l.number + l.left ≡ l.first + l.n)
     × (l.to + width ITEMS * item_count (values (run (many (template_at (until l.end)) next l.left l.at) l.b)) ≡ width ITEMS * item_count (values (run (many (template_at (until l.end)) next l.n l.start) l.b)))
     × (length l.area ≡ length l.initial.area)
-    × (verdict (run (many (template_at (until l.end)) next l.left l.at) l.b) ≡ verdicts.Fine)
+    × (verdict (run (many (template_at (until l.end)) next l.left l.at) l.b) ≡ Ok tt)
     × (laid l.initial.area 0 (flat (λ e. e) (item_list l.first (values (run (many (template_at (until l.end)) next l.n l.start) l.b))))
     ≡ laid l.area l.to (flat (λ e. e) (item_list l.number (values (run (many (template_at (until l.end)) next l.left l.at) l.b)))))
 

@@ -1,8 +1,8 @@
 -- The invariant: what is left decides. The rest, laid from here, makes the area what it shall be, and the rest is fine.
+use Rattle.std.specs.Prelude.{Ok}
 use Prim.Native.Nat.{◌+◌, ◌*◌, ◌≤◌}
 use mathlib.Core.Path.{◌≡◌}
 use lib.ListN.{length}
-use Rattle.blob.specs.declared.Verdict.TheVariants as verdicts
 use Rattle.blob.specs.Reading.{run, many, verdict}
 use Rattle.blob.proofs.Laws.{rest}
 use Rattle.format.specs.Area.{TEMPLATES, width}
@@ -17,7 +17,7 @@ invariant-loop-left l =
     (l.at ≤ l.end)
     × (l.to + width TEMPLATES * l.left ≤ length l.area)
     × (length l.area ≡ length l.initial.area)
-    × (verdict (run (many (template_at (until l.end)) next l.left l.at) l.b) ≡ verdicts.Fine)
+    × (verdict (run (many (template_at (until l.end)) next l.left l.at) l.b) ≡ Ok tt)
     × (rest (template_at (until l.end)) next (template_words l.provider) l.b l.initial.area l.n l.start 0 ≡ rest (template_at (until l.end)) next (template_words l.provider) l.b l.area l.left l.at l.to)
 
 abbrev pub decreases-loop-left : goal.decreases-loop-left

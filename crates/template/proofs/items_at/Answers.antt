@@ -1,6 +1,6 @@
 -- Each place is answered as the definition answers it.
+use Rattle.std.specs.Prelude.{Err}
 use mathlib.Core.Path.{ap}
-use Rattle.blob.specs.declared.Verdict.TheVariants as verdicts
 use Rattle.blob.specs.Reading.{run}
 use Rattle.format.specs.Template.{items_at}
 use Rattle.template.proofs.items_at.Goals as goal
@@ -11,8 +11,8 @@ returns-in-At c = rw c.in-At.is
 
 pub returns-in-Before : goal.returns-in-Before
 unfolding run items_at
-returns-in-Before c = rw c.in-Before.is (ap verdicts.Refused c.offset_out.ensures)
+returns-in-Before c = rw c.in-Before.is (ap Err c.offset_out.ensures)
 
 pub returns-in-Past : goal.returns-in-Past
 unfolding run items_at
-returns-in-Past c = rw c.in-Past.is (ap verdicts.Refused c.offset_out-in-Past.ensures)
+returns-in-Past c = rw c.in-Past.is (ap Err c.offset_out-in-Past.ensures)
