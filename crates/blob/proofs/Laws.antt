@@ -1,8 +1,8 @@
 -- Laws of a run, each stated once: of a sequence, of a number, of a loop that checks and of one that fills.
 use Prim.Native.Nat.{ℕ, zero, suc, ◌+◌, ◌-◌, ◌*◌, ◌≤◌, ◌<◌}
-use Rattle.std.specs.Prelude.{◌≡◌, List, [], ◌∷◌, ◌++◌, Bool, true, false, ◌&&◌, get_or, leb, Result, Ok, Err, IsErrAnd}
+use Rattle.std.specs.Prelude.{◌≡◌, List, [], ◌∷◌, ◌++◌, Bool, true, false, ◌&&◌, get_or, leb, Result, Ok, Err, IsOk, IsErrAnd}
 use Rattle.std.proofs.Math.Path.{refl, ap, sym}
-use Rattle.std.proofs.Common.{◌∙◌, mul-zero, mul-suc, length-append, le-leb, leb-true}
+use Rattle.std.proofs.Common.{rules, ◌∙◌, mul-zero, mul-suc, length-append, le-leb, leb-true}
 use native.Mathlib.Omega.{arith}
 use Rattle.std.proofs.Math.ListN.{length}
 use Rattle.std.proofs.lemmas.Bool.{lt-leb}
@@ -10,7 +10,7 @@ use Rattle.std.proofs.lemmas.Result.{err_from_is_err_and}
 use Rattle.blob.specs.Le.{le}
 use Rattle.blob.specs.Laid.{laid, laid_more, flat}
 use Rattle.blob.specs.declared.Refusal.{Refusal}
-use Rattle.blob.specs.Reading.{Fault, Reading, got, stop, room, byte, Outcome, done, refused, choose, demand, run, ◌>>=◌, number, many, each, then, answer, verdict, values}
+use Rattle.blob.specs.Reading.{Fault, Reading, got, stop, room, byte, Outcome, done, refused, choose, demand, run, ◌>>=◌, number, many, each, then, answer, as_result, verdict, values}
 
 -- a refusal is never a value, and two values are equal where their outcomes are
 pub never : {A : Type 0} (r : Refusal) (a : A) → ◌≡◌ {A = Outcome A} (refused r) (done a) → ⊥
@@ -43,9 +43,22 @@ pub fine-value : {A : Type 0} (o : Outcome A) → verdict o ≡ Ok tt → (a : A
 fine-value (done a) v = (a, refl)
 fine-value (refused r) v = absurd (not_fine r v)
 
+-- an outcome that is fine is no error
+pub fine_ok : {A R : Type 0} (f : A → R) (o : Outcome A) → verdict o ≡ Ok tt → IsOk (as_result f o)
+fine_ok f (done a) v = search rules
+fine_ok f (refused r) v = absurd (not_fine r v)
+
+-- what an answer tells of the outcome that it is for
+pub result_found : {A R : Type 0} (f : A → R) (o : Outcome A) (x : R) → Ok x ≡ as_result f o → (a : A) × (o ≡ done a) × (x ≡ f a)
+result_found f (done a) x h = (a, refl, cc)
+result_found f (refused r) x h = absurd (not_fine r (sym h))
+
+pub result_refused : {A R : Type 0} (f : A → R) (o : Outcome A) (r : Refusal) → Err r ≡ as_result f o → o ≡ refused r
+result_refused f (done a) r h = absurd (not_fine r h)
+result_refused f (refused q) r h = cc
+
 pub refused-value : {A : Type 0} (o : Outcome A) (r : Refusal) → Err r ≡ verdict o → o ≡ refused r
-refused-value (done a) r h = absurd (not_fine r h)
-refused-value (refused q) r h = cc
+refused-value o r h = result_refused (λ a. tt) o r h
 
 -- what an accepted outcome was made of
 pub then-done : {A B : Type 0} (o : Outcome A) (f : A → Outcome B) (b : B) → then o f ≡ done b → (a : A) × (o ≡ done a) × (f a ≡ done b)

@@ -1,13 +1,11 @@
 -- What the code answers for an element, way by way.
-use Rattle.std.specs.Prelude.{ℕ, zero, suc, ◌+◌, ◌≤◌, ◌<◌, min, ◌≡◌, List, length}
+use Rattle.std.specs.Prelude.{ℕ, zero, suc, ◌+◌, ◌≤◌, ◌<◌, min, ◌≡◌, List, length, Ok, Err, Result}
 use Rattle.std.proofs.Math.Path.{refl, ap, sym}
 use Rattle.std.proofs.Common.{◌∙◌, arith, ne_eqb}
 use Rattle.blob.specs.Le.{le}
 use Rattle.blob.specs.declared.Refusal.{Refusal}
-use Rattle.blob.specs.declared.Verdict.{Verdict}
-use Rattle.blob.specs.declared.Verdict.TheVariants as verdicts
 use Rattle.blob.specs.Reading.{Reading, got, Outcome, done, refused, run, ◌>>=◌, then, verdict}
-use Rattle.blob.proofs.Laws.{run-number, run_room, run_past, run-got, run_bind, run-after, run-stopped, fine-done}
+use Rattle.blob.proofs.Laws.{result_found, result_refused, run-number, run_room, run_past, run-got, run_bind, run-after, run-stopped, fine-done}
 use Rattle.event.specs.Events.{events-fine}
 use Rattle.format.specs.Field.{unknown_element_header, unknown_element_end}
 use Rattle.format.specs.Refuse.{offset_out, truncated}
@@ -21,25 +19,14 @@ use Rattle.format.specs.Provider.{Rows, definitions, maps, templates, Table, tab
 use Rattle.format.specs.Answer.{capped}
 use Rattle.format.specs.Steps.Needs.{entry_count, item_count, inner, count_read, maps_read, templates_read, table_read, element_read}
 use Rattle.format.specs.declared.Header.{Header}
-use Rattle.format.specs.declared.HeaderRead.TheVariants as headers
-use Rattle.format.specs.declared.EndRead.TheVariants as ends
-use Rattle.format.specs.declared.EntriesRead.{EntriesRead}
-use Rattle.format.specs.declared.EntriesRead.TheVariants as entries
 use Rattle.element.specs.Tables.{as_events, as_maps, as_templates, as_definitions, header-words}
 
--- where entries have none of their own
-abbrev pub without_entries : Verdict → EntriesRead
-without_entries verdicts.Fine = entries.Entries 0
-without_entries (verdicts.Refused r) = entries.Refused r
-
 -- what the answer for a header tells of its reading
-is_header : (o : Outcome Header) (h : Header) → headers.Header h ≡ header_read o → o ≡ done h
-is_header (done g) h e = cc
-is_header (refused r) h e = absurd (let z : ◌≡◌ {A = ℕ} 0 1 = cc in omega arith)
+is_header : (o : Outcome Header) (h : Header) → Ok h ≡ header_read o → o ≡ done h
+is_header o h e = let f = result_found (λ h. h) o h e in f.1 ∙ ap done (sym f.2)
 
-no_header : (o : Outcome Header) (r : Refusal) → headers.Refused r ≡ header_read o → o ≡ refused r
-no_header (done g) r e = absurd (let z : ◌≡◌ {A = ℕ} 0 1 = cc in omega arith)
-no_header (refused q) r e = cc
+no_header : (o : Outcome Header) (r : Refusal) → Err r ≡ header_read o → o ≡ refused r
+no_header o r e = result_refused (λ h. h) o r e
 
 -- an element of no known kind, whose signature lies in the blob
 module _ (at : ℕ) (s : List ℕ) (i : at ≤ length s) where
@@ -52,17 +39,17 @@ module _ (at : ℕ) (s : List ℕ) (i : at ≤ length s) where
     unfolding unknown_at
     unknown-out g = rw (run_room, run_room, run-number, run-number, ← ends, run_past)
 
-    pub unknown-fine : e ≤ length s → verdict (run (unknown_at at) s) ≡ verdicts.Fine
+    pub unknown-fine : e ≤ length s → verdict (run (unknown_at at) s) ≡ Ok tt
     unfolding unknown_at
     unknown-fine g = rw (run_room, run_room, run-number, run-number, ← ends, run_room, run-got)
 
 -- an EVNT whose end is known
 module _ (at : ℕ) (h : Header) (s : List ℕ) where
-  pub events-refused : (r : Refusal) → ends.Refused r ≡ end_read (λ e. e) (run (table_end EVNT at h) s) → run (events_at at h) s ≡ refused r
+  pub events-refused : (r : Refusal) → Err r ≡ end_read (λ e. e) (run (table_end EVNT at h) s) → run (events_at at h) s ≡ refused r
   unfolding events_at
   events-refused r f = run-stopped _ _ s r (no_end _ _ r f)
 
-  pub events-found : (e : ℕ) → ends.End e ≡ end_read (λ e. e) (run (table_end EVNT at h) s) → table_read (run (events_at at h) s) ≡ entries.Entries 0
+  pub events-found : (e : ℕ) → Ok e ≡ end_read (λ e. e) (run (table_end EVNT at h) s) → table_read (run (events_at at h) s) ≡ Ok 0
   unfolding events_at run
   events-found e f =
       ap table_read (run-after _ _ s e (is_place _ e f) ∙ run-number _ _ _ s ∙ run-after _ _ s _ (fine-done _ (events-fine s h.count (at + 16))))
@@ -74,12 +61,8 @@ unfolding then run
 with_inner {A} k at h s f count n r = go (run r s) ∙ sym (ap table_read (run_bind _ _ s))
   where
     go : (o : Outcome A) → count_read count o ≡ table_read (then o (λ a. done (plain k at h (f a))))
-    go (done a) = ap (λ m. entries.Entries (capped m)) (sym (n a))
+    go (done a) = ap (λ m. Ok (capped m)) (sym (n a))
     go (refused q) = refl
-
-without_inner : {A : Type 0} (o : Outcome A) → without_entries (verdict o) ≡ count_read (λ a. 0) o
-without_inner (done a) = refl
-without_inner (refused q) = refl
 
 -- a table, by its kind
 module _ (k at : ℕ) (h : Header) (s : List ℕ) where
@@ -92,16 +75,16 @@ module _ (k at : ℕ) (h : Header) (s : List ℕ) where
   pub checks_templates : k ≡ TTBL → templates_read (run (templates_at at h) s) ≡ table_read (run (table_at k at h) s)
   checks_templates e = with_inner k at h s templates item_count (λ ts. refl) _ ∙ ap (λ r. table_read (run r s)) (sym (as_templates k at h e))
 
-  pub checks_definitions : (k ≡ EVNT → ⊥) → (k ≡ MAPS → ⊥) → (k ≡ TTBL → ⊥) → without_entries (verdict (run (definitions_at k at h) s)) ≡ table_read (run (table_at k at h) s)
-  checks_definitions e m t = without_inner (run (definitions_at k at h) s) ∙ with_inner k at h s definitions (λ ds. 0) (λ ds. refl) _ ∙ ap (λ r. table_read (run r s)) (sym (as_definitions k at h e m t))
+  pub checks_definitions : (k ≡ EVNT → ⊥) → (k ≡ MAPS → ⊥) → (k ≡ TTBL → ⊥) → count_read (λ ds. 0) (run (definitions_at k at h) s) ≡ table_read (run (table_at k at h) s)
+  checks_definitions e m t = with_inner k at h s definitions (λ ds. 0) (λ ds. refl) _ ∙ ap (λ r. table_read (run r s)) (sym (as_definitions k at h e m t))
 
 -- an element of a known kind, by what was found of its header
 module _ (k at : ℕ) (s : List ℕ) (known : 1 ≤ k) where
-  pub checks_refused : (r : Refusal) → headers.Refused r ≡ header_read (run (header_at k at) s) → entries.Refused r ≡ element_read (run (element_of k at) s)
+  pub checks_refused : (r : Refusal) → Err r ≡ header_read (run (header_at k at) s) → Err r ≡ element_read (run (element_of k at) s)
   unfolding element_of
   checks_refused r f = rw (ne_eqb k 0 (λ z. omega arith)) (sym (ap element_read (run-stopped _ _ s r (no_header _ r f))))
 
-  module _ (h : Header) (f : headers.Header h ≡ header_read (run (header_at k at) s)) where
+  module _ (h : Header) (f : Ok h ≡ header_read (run (header_at k at) s)) where
     pub checks_table : table_read (run (table_at k at h) s) ≡ element_read (run (element_of k at) s)
     unfolding element_of then run
     checks_table = rw (ne_eqb k 0 (λ z. omega arith)) (go (run (table_at k at h) s) ∙ sym (ap element_read (run-after _ _ s h (is_header _ h f) ∙ run_bind _ _ s)))

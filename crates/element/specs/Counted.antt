@@ -1,6 +1,6 @@
 -- What is counted of a provider's elements: those of no known kind, and what the entries of each kind's last table have.
 use Prim.Native.Nat.{ℕ, suc, ◌+◌, ◌-◌, ◌≤◌, ◌<◌}
-use Rattle.std.specs.Prelude.{◌≡◌, Bool, true, false, get_or, set, drop, replicate, eqb}
+use Rattle.std.specs.Prelude.{◌≡◌, Bool, true, false, get_or, set, drop, replicate, eqb, Ok, Err, Result}
 use Rattle.std.proofs.Math.Path.{refl, ap}
 use Rattle.std.proofs.Common.{sym, ◌∙◌, eqb-true, zero-add}
 use mathlib.Core.List.{List, [], ◌∷◌, map, append-nil}
@@ -10,8 +10,7 @@ use Rattle.std.proofs.lemmas.Bool.{eqb-false}
 use Rattle.blob.specs.Le.{le}
 use Rattle.blob.specs.Laid.{flat, flat_append}
 use Rattle.blob.specs.declared.Refusal.{Refusal}
-use Rattle.blob.specs.declared.Verdict.TheVariants as verdicts
-use Rattle.blob.specs.Reading.{Outcome, done, refused, choose, run, many, answer, verdict, values}
+use Rattle.blob.specs.Reading.{Outcome, done, refused, choose, run, many, answer, verdict, values, as_result}
 use Rattle.format.specs.Table.{MAPS, TTBL, kinds, kind_of}
 use Rattle.format.specs.Definition.{step}
 use Rattle.format.specs.Provider.{Rows, definitions, events, maps, templates, Table, Element, descriptor_at, unknown_at, element_of, element_at, elements_from}
@@ -20,15 +19,13 @@ use Rattle.format.specs.Answer.{capped}
 use Rattle.format.specs.Area as area
 use Rattle.format.specs.Steps.Needs.{inner, entries_in, items_in, entries_of, element_read}
 use Rattle.format.specs.declared.Descriptor.{Descriptor}
-use Rattle.format.specs.declared.EntriesRead.TheVariants as entries
-use Rattle.format.specs.declared.Needed.{Needed}
 use Rattle.element.specs.declared.Elements.{Elements}
 use Rattle.element.specs.Tables.{Kept, kind-most, is_unknown, is_table, kept-one}
 use Rattle.element.specs.Elements.{from-none, from-stop, from_told, last_or}
 use Rattle.element.specs.Places.{nowhere, noted, placed, known, noted-known, Standing, standing}
 use Rattle.element.specs.Sums.{grown_all, grown-all}
 use Rattle.format.proofs.Theorems.Needed.{total-length, after-all}
-use Rattle.blob.proofs.Laws.{not_fine, fine-value}
+use Rattle.blob.proofs.Laws.{result_found, result_refused, fine-value}
 
 -- how many entries a table's entries have, as far as they are counted
 abbrev pub held : Table → ℕ
@@ -37,32 +34,26 @@ held t = capped (inner t.rows)
 abbrev pub nothing : List ℕ
 nothing = replicate 9 0
 
--- what the code answers for a provider's elements: no place where no table is kept
-abbrev pub none : Refusal → Elements
-none r = record { verdict = verdicts.Refused r; unknown = 0; entries = nothing; places = nowhere }
-
--- once so many elements of no known kind were counted, and so many entries of each kind's last table, and these places were known
-abbrev pub read_from : ℕ → List ℕ → List ℕ → Outcome (List Element) → Elements
-read_from u ns ps o =
-    answer (λ es. record { verdict = verdicts.Fine; unknown = u + length (unknowns es); entries = noted held ns (known es); places = placed ps (known es) }) none o
+-- what the code answers for a provider's elements once so many elements of no known kind were counted, and so many entries of each kind's
+-- last table, and these places were known: no place where no table is kept
+abbrev pub read_from : ℕ → List ℕ → List ℕ → Outcome (List Element) → Result Elements Refusal
+read_from u ns ps o = as_result (λ es. record { unknown = u + length (unknowns es); entries = noted held ns (known es); places = placed ps (known es) }) o
 
 -- and from the start
-abbrev pub elements_read : Outcome (List Element) → Elements
+abbrev pub elements_read : Outcome (List Element) → Result Elements Refusal
 elements_read o = read_from 0 nothing nowhere o
 
 pub read_none : (s : List ℕ) (left at u : ℕ) (ns ps : List ℕ) → left ≤ 0
-    → read_from u ns ps (run (elements_from left at) s) ≡ record { verdict = verdicts.Fine; unknown = u; entries = ns; places = ps }
+    → read_from u ns ps (run (elements_from left at) s) ≡ Ok (record { unknown = u; entries = ns; places = ps })
 unfolding unknowns known noted
 read_none s left at u ns ps h = ap (read_from u ns ps) (from-none s left at h) ∙ (let e : u + 0 ≡ u = omega arith in rw e)
 
 -- what the answer for an element tells of its reading
-is_fine : (o : Outcome Element) (x : ℕ) → entries.Entries x ≡ element_read o → (e : Element) × (o ≡ done e) × (x ≡ capped (entries_of e))
-is_fine (done e) x h = (e, refl, cc)
-is_fine (refused r) x h = absurd (let z : ◌≡◌ {A = ℕ} 0 1 = cc in omega arith)
+is_fine : (o : Outcome Element) (x : ℕ) → Ok x ≡ element_read o → (e : Element) × (o ≡ done e) × (x ≡ capped (entries_of e))
+is_fine o x h = result_found (λ e. capped (entries_of e)) o x h
 
-pub is_refused : (o : Outcome Element) (r : Refusal) → entries.Refused r ≡ element_read o → o ≡ refused r
-is_refused (done e) r h = absurd (let z : ◌≡◌ {A = ℕ} 0 1 = cc in omega arith)
-is_refused (refused q) r h = cc
+pub is_refused : (o : Outcome Element) (r : Refusal) → Err r ≡ element_read o → o ≡ refused r
+is_refused o r h = result_refused (λ e. capped (entries_of e)) o r h
 
 -- an element of no known kind comes before the others of none; another changes nothing
 module _ (s : List ℕ) (d : Descriptor) (e : Element) (i : run (element_at d) s ≡ done e) (es : List Element) where
@@ -105,18 +96,18 @@ module _ (s : List ℕ) (left at : ℕ) (h : 0 < left) (d : Descriptor) (found :
   unfolding element_at
   same_element = rw q
 
-  pub read_stop : (r : Refusal) → run (element_of k d.offset) s ≡ refused r → verdict (run (many descriptor_at (step 8) left at) s) ≡ verdicts.Fine
-      → read_from u n ps (run (elements_from left at) s) ≡ none r
+  pub read_stop : (r : Refusal) → run (element_of k d.offset) s ≡ refused r → verdict (run (many descriptor_at (step 8) left at) s) ≡ Ok tt
+      → read_from u n ps (run (elements_from left at) s) ≡ Err r
   read_stop r f v = ap (read_from u n ps) (from-stop s left at h d found r (same_element ∙ f) v)
 
-  pub read_unknown : k ≡ 0 → verdict (run (unknown_at d.offset) s) ≡ verdicts.Fine
+  pub read_unknown : k ≡ 0 → verdict (run (unknown_at d.offset) s) ≡ Ok tt
       → read_from u n ps (run (elements_from left at) s) ≡ read_from (u + 1) n ps (run (elements_from (left - 1) (at + 8)) s)
   read_unknown z f =
       let e = fine-value _ f in
       let i = same_element ∙ as_unknown k _ s z ∙ e.1 in
       from_told s left at h d found (read_from u n ps) (read_from (u + 1) n ps) e.0 (λ es. unknown-counts s d e.0 i es u n ps (sym q ∙ z)) (λ r. refl) i
 
-  pub read_table : 1 ≤ k → (x : ℕ) → entries.Entries x ≡ element_read (run (element_of k d.offset) s)
+  pub read_table : 1 ≤ k → (x : ℕ) → Ok x ≡ element_read (run (element_of k d.offset) s)
       → read_from u n ps (run (elements_from left at) s) ≡ read_from u (set n k x) (set ps k d.offset) (run (elements_from (left - 1) (at + 8)) s)
   read_table one x f =
       let e = is_fine _ x f in
@@ -124,7 +115,7 @@ module _ (s : List ℕ) (left at : ℕ) (h : 0 < left) (d : Descriptor) (found :
       from_told s left at h d found (read_from u n ps) (read_from u (set n k x) (set ps k d.offset)) e.0 (λ es. table-counts s d e.0 i es u x k n ps one q e.2) (λ r. refl) i
 
 -- Of the kept tables only that of one kind has some entries: those are counted.
-module _ (s : List ℕ) (c at : ℕ) (v : verdict (run (elements_from c at) s) ≡ verdicts.Fine) {B : Type 0} (items : Rows → List B) (k : ℕ)
+module _ (s : List ℕ) (c at : ℕ) (v : verdict (run (elements_from c at) s) ≡ Ok tt) {B : Type 0} (items : Rows → List B) (k : ℕ)
     (alone : (j : ℕ) (t : Table) → Kept j s t → (j ≡ k → ⊥) → items t.rows ≡ []) where
   abbrev es : List Element
   es = values (run (elements_from c at) s)
@@ -172,23 +163,26 @@ needs_of es =
     ∷ length (flat (λ t. items_in t.rows) (kept es))
     ∷ []
 
-abbrev pub needed_for : Outcome (List Element) → Needed
-needed_for o =
-    answer (λ es. record { verdict = verdicts.Fine; counts = map capped (needs_of es) }) (λ r. record { verdict = verdicts.Refused r; counts = area.none }) o
+abbrev pub needed_for : Outcome (List Element) → Result (List ℕ) Refusal
+needed_for o = as_result (λ es. map capped (needs_of es)) o
 
 -- what the answer for the elements tells of their reading
-pub is_elements : (o : Outcome (List Element)) (e : Elements) → e ≡ elements_read o → e.verdict ≡ verdicts.Fine
-    → (verdict o ≡ verdicts.Fine)
+pub is_elements : (o : Outcome (List Element)) (e : Elements) → Ok e ≡ elements_read o
+    → (verdict o ≡ Ok tt)
     × Standing e.places (values o)
     × ((k : ℕ) → 1 ≤ k → k ≤ 8 → get_or e.entries k 0 ≡ last_or held 0 (last_of k (values o)))
     × (e.unknown ≡ length (unknowns (values o)))
-is_elements (done es) e h f =
-    (refl, rw h (standing es), rw h (noted-known held es), ap (λ (x : Elements). x.unknown) h ∙ zero-add (length (unknowns es)))
-is_elements (refused r) e h f = absurd (not_fine r (sym (ap (λ (x : Elements). x.verdict) h) ∙ f))
+is_elements o e h = let f = result_found _ o e h in go f.0 o f.1 f.2
+  where
+    go : (es : List Element) (o : Outcome (List Element)) → o ≡ done es → e ≡ record { unknown = 0 + length (unknowns es); entries = noted held nothing (known es); places = placed nowhere (known es) }
+        → (verdict o ≡ Ok tt)
+        × Standing e.places (values o)
+        × ((k : ℕ) → 1 ≤ k → k ≤ 8 → get_or e.entries k 0 ≡ last_or held 0 (last_of k (values o)))
+        × (e.unknown ≡ length (unknowns (values o)))
+    go es o f g = rw (f, g) (refl, standing es, noted-known held es, zero-add (length (unknowns es)))
 
-pub no-elements : (o : Outcome (List Element)) (e : Elements) (r : Refusal) → e ≡ elements_read o → e.verdict ≡ verdicts.Refused r → o ≡ refused r
-no-elements (done es) e r h f = absurd (not_fine r (sym f ∙ ap (λ (x : Elements). x.verdict) h))
-no-elements (refused q) e r h f = let x : verdicts.Refused q ≡ verdicts.Refused r = sym (ap (λ (x : Elements). x.verdict) h) ∙ f in cc
+pub no-elements : (o : Outcome (List Element)) (r : Refusal) → Err r ≡ elements_read o → o ≡ refused r
+no-elements o r h = result_refused _ o r h
 
 -- a MAPS has map entries, a TTBL has items
 of-maps : (r : Rows) → list_of r ≡ area.MAPS → inner r ≡ length (entries_in r)
@@ -204,7 +198,7 @@ of-templates (maps ms) h = absurd (omega arith)
 of-templates (templates ts) h = total-length (λ t. t.items) ts
 
 -- the numbers, once the kept tables are counted
-module _ (s : List ℕ) (c at : ℕ) (v : verdict (run (elements_from c at) s) ≡ verdicts.Fine) where
+module _ (s : List ℕ) (c at : ℕ) (v : verdict (run (elements_from c at) s) ≡ Ok tt) where
   abbrev all : List Element
   all = values (run (elements_from c at) s)
 

@@ -1,11 +1,10 @@
 -- A provider's elements, descriptor by descriptor: what the next one makes of those that are left.
-use Rattle.std.specs.Prelude.{ℕ, ◌+◌, ◌-◌, ◌≤◌, ◌<◌, ◌≡◌, refl, Bool, true, false, length, eqb}
+use Rattle.std.specs.Prelude.{ℕ, ◌+◌, ◌-◌, ◌≤◌, ◌<◌, ◌≡◌, refl, Bool, true, false, length, eqb, Ok}
 use Rattle.std.proofs.Math.Path.{ap}
 use Rattle.std.proofs.Common.{sym, ◌∙◌}
 use mathlib.Core.List.{List, [], ◌∷◌}
 use Rattle.blob.specs.Le.{le}
 use Rattle.blob.specs.declared.Refusal.{Refusal}
-use Rattle.blob.specs.declared.Verdict.TheVariants as verdicts
 use Rattle.blob.specs.Reading.{Outcome, done, refused, choose, run, many, each, then, verdict, values}
 use Rattle.blob.proofs.Laws.{fine-value, run_bind, run-after, not_fine, fine-done, then-done, told_more, many-empty, many-stop, values-more, each-told, each-stop}
 use Rattle.blob.proofs.Finds.{Finds, finds-got, finds-room, finds-next}
@@ -28,7 +27,7 @@ module _ (s : List ℕ) (at : ℕ) where
   pub signature-fits : (d : Descriptor) → run (descriptor_at at) s ≡ done d → d.offset + 4 ≤ length s
   signature-fits d e = let t = descriptor_told.found d e in rw t.0 t.1
 
-  module _ (v : verdict (run (descriptor_at at) s) ≡ verdicts.Fine) where
+  module _ (v : verdict (run (descriptor_at at) s) ≡ Ok tt) where
     pub descriptor_fits : le 4 s at + 4 ≤ length s
     descriptor_fits = let d = fine-value _ v in (descriptor_told.found d.0 d.1).1
 
@@ -44,19 +43,19 @@ module _ (s : List ℕ) (left at : ℕ) where
   from-none h = run-after _ _ s [] (many-empty descriptor_at (step 8) left at s h)
 
   -- the descriptors of accepted elements are fine
-  pub from-described : verdict (run (elements_from left at) s) ≡ verdicts.Fine → verdict (run (many descriptor_at (step 8) left at) s) ≡ verdicts.Fine
+  pub from-described : verdict (run (elements_from left at) s) ≡ Ok tt → verdict (run (many descriptor_at (step 8) left at) s) ≡ Ok tt
   from-described v = ap verdict (then-done _ _ _ (sym (run_bind _ _ s) ∙ fine-done _ v)).1
 
   module _ (h : 0 < left) where
-    pub next-described : verdict (run (many descriptor_at (step 8) left at) s) ≡ verdicts.Fine → verdict (run (descriptor_at at) s) ≡ verdicts.Fine
+    pub next-described : verdict (run (many descriptor_at (step 8) left at) s) ≡ Ok tt → verdict (run (descriptor_at at) s) ≡ Ok tt
     next-described v = go (run (descriptor_at at) s) refl
       where
-        go : (o : Outcome Descriptor) → run (descriptor_at at) s ≡ o → verdict o ≡ verdicts.Fine
+        go : (o : Outcome Descriptor) → run (descriptor_at at) s ≡ o → verdict o ≡ Ok tt
         go (done d) e = refl
         go (refused r) e = absurd (not_fine r (sym (many-stop descriptor_at (step 8) left at s r h e) ∙ v))
 
     module _ (d : Descriptor) (found : run (descriptor_at at) s ≡ done d) where
-      pub from-stop : (r : Refusal) → run (element_at d) s ≡ refused r → verdict (run (many descriptor_at (step 8) left at) s) ≡ verdicts.Fine
+      pub from-stop : (r : Refusal) → run (element_at d) s ≡ refused r → verdict (run (many descriptor_at (step 8) left at) s) ≡ Ok tt
           → run (elements_from left at) s ≡ refused r
       from-stop r e v =
           run-after _ _ s _ (fine-done _ v ∙ ap done (values-more descriptor_at (step 8) left at s d h found v)) ∙ each-stop element_at s d _ r e
@@ -77,7 +76,7 @@ module _ (s : List ℕ) (left at : ℕ) where
       unfolding then
       from_more e i = from_told (λ o. o) (λ o. then o (λ es. done (e ∷ es))) e (λ es. refl) (λ r. refl) i
 
-      module _ (v : verdict (run (elements_from left at) s) ≡ verdicts.Fine) where
+      module _ (v : verdict (run (elements_from left at) s) ≡ Ok tt) where
         pub next-element : (e : Element) × (run (element_at d) s ≡ done e)
         next-element = go (run (element_at d) s) refl
           where
@@ -85,7 +84,7 @@ module _ (s : List ℕ) (left at : ℕ) where
             go (done e) i = (e, refl)
             go (refused r) i = absurd (not_fine r (sym (ap verdict (from-stop r i (from-described v))) ∙ v))
 
-        pub from-fine : verdict (run (elements_from (left - 1) (at + 8)) s) ≡ verdicts.Fine
+        pub from-fine : verdict (run (elements_from (left - 1) (at + 8)) s) ≡ Ok tt
         from-fine = sym (from_told verdict verdict next-element.0 (λ es. refl) (λ r. refl) next-element.1) ∙ v
 
         pub from-values : values (run (elements_from left at) s) ≡ next-element.0 ∷ values (run (elements_from (left - 1) (at + 8)) s)

@@ -1,11 +1,10 @@
 -- A provider's kept tables, kind by kind, as the code walks over them.
 use Prim.Native.Nat.{ℕ, zero, suc, ◌+◌, ◌-◌, ◌≤◌, ◌<◌}
-use Rattle.std.specs.Prelude.{◌≡◌, List, [], ◌∷◌, ◌++◌, length}
+use Rattle.std.specs.Prelude.{◌≡◌, List, [], ◌∷◌, ◌++◌, length, Ok}
 use Rattle.std.proofs.Math.Path.{refl, ap}
 use Rattle.std.proofs.Common.{sym, ◌∙◌}
 use native.Mathlib.Omega.{arith}
 use Rattle.blob.specs.Laid.{flat}
-use Rattle.blob.specs.declared.Verdict.TheVariants as verdicts
 use Rattle.blob.specs.Reading.{run, verdict, values}
 use Rattle.format.specs.Provider.{Table, Element, elements_from}
 use Rattle.format.specs.Lists.{last_of, kept}
@@ -36,7 +35,7 @@ module _ (es : List Element) where
   kept-none left k h = let e : left ≡ 0 = omega arith in rw e
 
 -- what the place of a kind's last table tells
-module _ (s : List ℕ) (n at k : ℕ) (v : verdict (run (elements_from n at) s) ≡ verdicts.Fine) (place : ℕ) (p : place ≡ place_of (last_of k (values (run (elements_from n at) s)))) where
+module _ (s : List ℕ) (n at k : ℕ) (v : verdict (run (elements_from n at) s) ≡ Ok tt) (place : ℕ) (p : place ≡ place_of (last_of k (values (run (elements_from n at) s)))) where
   abbrev last : List Table
   last = last_of k (values (run (elements_from n at) s))
 

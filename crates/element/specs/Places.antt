@@ -1,12 +1,11 @@
 -- Where a provider's elements stand, by kind: one place for each, of two of a kind the last one's.
-use Rattle.std.specs.Prelude.{ℕ, zero, suc, ◌+◌, ◌-◌, ◌≤◌, ◌<◌, ◌≡◌, Bool, true, false, length, get_or, set, replicate, eqb}
+use Rattle.std.specs.Prelude.{ℕ, zero, suc, ◌+◌, ◌-◌, ◌≤◌, ◌<◌, ◌≡◌, Bool, true, false, length, get_or, set, replicate, eqb, Ok}
 use Rattle.std.proofs.Math.Path.{refl, ap, sym}
 use Rattle.std.proofs.Common.{ap₂, ◌∙◌, arith, get_or-set_same, get_or-set_other, eqb-true}
 use mathlib.Core.List.{List, [], ◌∷◌}
 use Rattle.std.proofs.Math.ListN.{length-set}
 use Rattle.std.proofs.lemmas.List.{length-replicate, get_or-replicate}
 use Rattle.std.proofs.lemmas.Bool.{eqb-false}
-use Rattle.blob.specs.declared.Verdict.TheVariants as verdicts
 use Rattle.blob.specs.Reading.{choose, run, done, verdict, values}
 use Rattle.format.specs.Table.{kind_of}
 use Rattle.format.specs.Provider.{Table, Element, table, unknown, descriptor_at, element_at, elements_from}
@@ -97,7 +96,7 @@ placed_one s d e i ps es (suc n) p =
     let t = is_table s (suc n) d.offset e (omega arith) (rw p at (kind-most d.signature)) (rw p at i) in
     rw (t.1, t.3.kind, t.2)
 
-module _ (s : List ℕ) (left at : ℕ) (h : 0 < left) (d : Descriptor) (found : run (descriptor_at at) s ≡ done d) (v : verdict (run (elements_from left at) s) ≡ verdicts.Fine) where
+module _ (s : List ℕ) (left at : ℕ) (h : 0 < left) (d : Descriptor) (found : run (descriptor_at at) s ≡ done d) (v : verdict (run (elements_from left at) s) ≡ Ok tt) where
   pub placed-more : (ps : List ℕ) (k : ℕ) → k ≡ kind_of d.signature
       → placed ps (values (run (elements_from left at) s)) ≡ placed (set ps k d.offset) (values (run (elements_from (left - 1) (at + 8)) s))
   placed-more ps k q =

@@ -1,10 +1,9 @@
 -- How many tables are kept and how many entries they have, kind by kind, where each number stops rising.
-use Rattle.std.specs.Prelude.{ℕ, zero, suc, ◌+◌, ◌-◌, ◌≤◌, ◌<◌, ◌≡◌, refl, length, get_or, set}
+use Rattle.std.specs.Prelude.{ℕ, zero, suc, ◌+◌, ◌-◌, ◌≤◌, ◌<◌, ◌≡◌, refl, length, get_or, set, Ok}
 use Rattle.std.proofs.Math.Path.{ap, sym}
 use Rattle.std.proofs.Common.{ap₂, ◌∙◌, arith}
 use mathlib.Core.List.{List, [], ◌∷◌, ◌++◌, map}
 use Rattle.blob.specs.Le.{le}
-use Rattle.blob.specs.declared.Verdict.TheVariants as verdicts
 use Rattle.blob.specs.Reading.{run, verdict, values}
 use Rattle.format.specs.Table.{kind_list}
 use Rattle.format.specs.Provider.{Table, Element, elements_from}
@@ -31,7 +30,7 @@ grown-all ns [] = refl
 grown-all ns (t ∷ ts) = rw (capped-set ns _ (row_count t.rows)) (grown-all (after ns t.rows) ts)
 
 -- What the kept tables that are left have, with those before: the next kind's table, or none.
-module _ (s : List ℕ) (n at k : ℕ) (v : verdict (run (elements_from n at) s) ≡ verdicts.Fine) (place : ℕ) (p : place ≡ place_of (last_of k (values (run (elements_from n at) s)))) where
+module _ (s : List ℕ) (n at k : ℕ) (v : verdict (run (elements_from n at) s) ≡ Ok tt) (place : ℕ) (p : place ≡ place_of (last_of k (values (run (elements_from n at) s)))) where
   abbrev es : List Element
   es = values (run (elements_from n at) s)
 

@@ -4,14 +4,13 @@ use Prim.{Unit, tt}
 use Prim.Native.Nat.{ℕ, zero, suc, ◌+◌, ◌-◌, ◌*◌, ◌≤◌}
 use Rattle.std.proofs.Math.Path.{◌≡◌, refl, ap, sym, subst}
 use Rattle.std.proofs.Common.{◌∙◌, arith}
-use Rattle.std.specs.Prelude.{Bool}
+use Rattle.std.specs.Prelude.{Bool, Ok}
 use Rattle.std.proofs.Math.Bool.{true, false}
 use mathlib.Core.List.{List, [], ◌∷◌}
 use Rattle.std.proofs.Math.ListN.{length}
 use Rattle.std.proofs.Math.Dec.{eqb}
 use borrow.Author.Tests.{eqb-true, eqb-false, ne_eqb}
 use Rattle.blob.specs.Le.{le}
-use Rattle.blob.specs.declared.Verdict.TheVariants as verdicts
 use Rattle.blob.specs.Reading.{Reading, got, done, choose, run, ◌>>=◌, many, each, verdict, values}
 use Rattle.blob.proofs.Laws.{then-done, run_bind, run-got, run-number, same, fine-done, many-count, each-done}
 use Rattle.blob.proofs.Finds.{Finds, finds-got, finds-room, finds-choose, finds-demand, finds_bind, finds-next}
@@ -239,7 +238,7 @@ module _ (s : List ℕ) where
       go ih [] false e f g = absurd (let z : ◌≡◌ {A = ℕ} 0 1 = cc in omega arith)
 
   -- a table that is kept of accepted elements
-  pub kept-one : (n at k : ℕ) (t : Table) (ts : List Table) → verdict (run (elements_from n at) s) ≡ verdicts.Fine
+  pub kept-one : (n at k : ℕ) (t : Table) (ts : List Table) → verdict (run (elements_from n at) s) ≡ Ok tt
       → last_of k (values (run (elements_from n at) s)) ≡ t ∷ ts → (ts ≡ []) × Kept k s t
   kept-one n at k t ts v h =
       let o = then-done _ _ _ (sym (run_bind _ _ s) ∙ fine-done _ v) in

@@ -7,16 +7,15 @@ ghost use Rattle.format.specs.Definition.{step};
 ghost use Rattle.format.specs.Table.{kind_of, header_length};
 ghost use Rattle.format.specs.Provider.{descriptor_at, unknown_at, events_at, table_at, element_of, elements_from};
 ghost use Rattle.element.specs.Signatures as spec;
-ghost use Rattle.element.specs.Checked.{without_entries};
 ghost use Rattle.element.specs.Places.{placed};
-ghost use Rattle.element.specs.Counted.{none, elements_read, needed_for};
+ghost use Rattle.element.specs.Counted.{elements_read, needed_for};
 ghost use Rattle.format.specs.Steps.Needs.{element_read, table_read};
 
-use blob::{Refusal, Verdict};
+use blob::Refusal;
 use format::field::{UNKNOWN_ELEMENT_END, UNKNOWN_ELEMENT_HEADER};
 use format::kind::{CHAN, EVNT, KEYW, KINDS, LEVL, MAPS, OPCO, TASK, TTBL};
 use format::list::{AREAS, row};
-use format::{Descriptor, EndRead, EntriesRead, Header, HeaderRead, Needed, signature};
+use format::{Descriptor, Header, signature};
 
 // Where a provider keeps no table of a kind: no place of a blob.
 pub const NONE: u32 = 4294967295;
@@ -71,43 +70,31 @@ fn in_word(n: usize) -> usize
 }
 
 // Whether an element of no known kind is fine, whose signature lies in the blob.
-fn check_unknown(b: &[u8], at: usize) -> Verdict
+fn check_unknown(b: &[u8], at: usize) -> Result<(), Refusal>
     requires { (at + 4 ≤ length b.now) × (length b.now ≤ 16777216) }
     ensures { result ≡ verdict (run (unknown_at at) b.now) }
 {
     if b.len() - at < 8 {
-        return Verdict::Refused(bounds::truncated(b.len(), UNKNOWN_ELEMENT_HEADER, at, 8));
+        return Err(bounds::truncated(b.len(), UNKNOWN_ELEMENT_HEADER, at, 8));
     }
     let end = at + blob::word(b, at + 4) as usize;
     if b.len() < end {
-        return Verdict::Refused(bounds::offset_out(b.len(), UNKNOWN_ELEMENT_END, in_word(end)));
+        return Err(bounds::offset_out(b.len(), UNKNOWN_ELEMENT_END, in_word(end)));
     }
-    Verdict::Fine
-}
-
-// What a verdict is where entries have no entries of their own.
-fn no_entries(v: Verdict) -> EntriesRead
-    ensures { result ≡ without_entries v }
-{
-    match v {
-        Verdict::Refused(r) => EntriesRead::Refused(r),
-        Verdict::Fine => EntriesRead::Entries(0),
-    }
+    Ok(())
 }
 
 // Whether an EVNT is fine whose header has been read: its events are never refused.
-fn check_events(b: &[u8], at: usize, h: Header) -> EntriesRead
+fn check_events(b: &[u8], at: usize, h: Header) -> Result<u32, Refusal>
     requires { (at + 16 ≤ length b.now) × (length b.now ≤ 16777216) }
     ensures { result ≡ table_read (run (events_at at h) b.now) }
 {
-    match table::table_end(b, EVNT, at, h) {
-        EndRead::Refused(r) => EntriesRead::Refused(r),
-        EndRead::End(_) => EntriesRead::Entries(0),
-    }
+    table::table_end(b, EVNT, at, h)?;
+    Ok(0)
 }
 
 // Whether the table of a kind is fine whose header has been read, and how many entries its entries have.
-fn check_table(b: &[u8], kind: u32, at: usize, h: Header) -> EntriesRead
+fn check_table(b: &[u8], kind: u32, at: usize, h: Header) -> Result<u32, Refusal>
     requires { (1 ≤ kind) × (kind ≤ 8) × (at + header_length kind ≤ length b.now) × (length b.now ≤ 16777216) }
     ensures { result ≡ table_read (run (table_at kind at h) b.now) }
 {
@@ -115,25 +102,26 @@ fn check_table(b: &[u8], kind: u32, at: usize, h: Header) -> EntriesRead
         EVNT => check_events(b, at, h),
         MAPS => map::check(b, at, h),
         TTBL => template::check(b, at, h),
-        _ => no_entries(definition::check_definitions(b, kind, at, h)),
+        _ => {
+            definition::check_definitions(b, kind, at, h)?;
+            Ok(0)
+        }
     }
 }
 
 // Whether the element of a known kind at a place is fine, and how many entries its entries have.
-fn check_element(b: &[u8], kind: u32, at: usize) -> EntriesRead
+fn check_element(b: &[u8], kind: u32, at: usize) -> Result<u32, Refusal>
     requires { (1 ≤ kind) × (kind ≤ 8) × (length b.now ≤ 16777216) }
     ensures { result ≡ element_read (run (element_of kind at) b.now) }
 {
-    match table::header_at(b, kind, at) {
-        HeaderRead::Refused(r) => EntriesRead::Refused(r),
-        HeaderRead::Header(h) => check_table(b, kind, at, h),
-    }
+    let h = table::header_at(b, kind, at)?;
+    check_table(b, kind, at, h)
 }
 
 // The descriptor at a place where it is known to be fine.
 pub fn descriptor_of(b: &[u8], at: usize) -> Descriptor
     requires at_in_bounds { at + 8 ≤ length b.now }
-    requires b_value { verdict (run (descriptor_at at) b.now) ≡ Verdict.Fine }
+    requires b_value { verdict (run (descriptor_at at) b.now) ≡ Ok tt }
     ensures { run (descriptor_at at) b.now ≡ done result }
 {
     let offset = blob::word(b, at);
@@ -148,65 +136,42 @@ pub fn descriptor_of(b: &[u8], at: usize) -> Descriptor
 // have, where the number stops rising at 65,537, and where that table stands.
 #[derive(Clone, Copy)]
 pub struct Elements {
-    pub verdict: Verdict,
     pub unknown: u32,
     pub entries: [u32; KINDS],
     pub places: [u32; KINDS],
 }
 
-// A refusal of an element.
-fn refused(r: Refusal) -> Elements
-    ensures { result ≡ none r }
-{
-    Elements {
-        verdict: Verdict::Refused(r),
-        unknown: 0,
-        entries: [0; KINDS],
-        places: [NONE; KINDS],
-    }
-}
-
 // Whether the elements of n descriptors, themselves fine, are fine, in descriptor order.
-fn check_elements(b: &[u8], start: usize, n: u32) -> Elements
+fn check_elements(b: &[u8], start: usize, n: u32) -> Result<Elements, Refusal>
     requires n_in_bounds { (start + 8 * n ≤ length b.now) × (length b.now ≤ 16777216) }
-    requires b_value { verdict (run (many descriptor_at (step 8) n start) b.now) ≡ Verdict.Fine }
+    requires b_value { verdict (run (many descriptor_at (step 8) n start) b.now) ≡ Ok tt }
     ensures { result ≡ elements_read (run (elements_from n start) b.now) }
 {
-    let mut at = start;
-    let mut left = n;
     let mut unknown = 0;
     let mut entries = [0; KINDS];
     let mut places = [NONE; KINDS];
-    while 0 < left {
-        let d = descriptor_of(b, at);
+    for i in 0..n as usize {
+        let d = descriptor_of(b, start + 8 * i);
         let kind = kind_of(d.signature);
         if kind == 0 {
-            if let Verdict::Refused(r) = check_unknown(b, d.offset as usize) {
-                return refused(r);
-            }
+            check_unknown(b, d.offset as usize)?;
             unknown += 1;
         } else {
-            match check_element(b, kind, d.offset as usize) {
-                EntriesRead::Refused(r) => return refused(r),
-                EntriesRead::Entries(e) => entries[kind as usize] = e,
-            }
+            entries[kind as usize] = check_element(b, kind, d.offset as usize)?;
             places[kind as usize] = d.offset;
         }
-        at += 8;
-        left -= 1;
     }
-    Elements {
-        verdict: Verdict::Fine,
+    Ok(Elements {
         unknown,
         entries,
         places,
-    }
+    })
 }
 
 // Where the tables of n descriptors' elements stand, by kind: of two of a kind the last. Elements of no known kind have the place of kind 0.
 pub fn place_tables(b: &[u8], start: usize, n: u32, places: &mut [u32])
     requires n_in_bounds { (start + 8 * n ≤ length b.now) × (length places.old ≡ 9) }
-    requires b_value { verdict (run (elements_from n start) b.now) ≡ Verdict.Fine }
+    requires b_value { verdict (run (elements_from n start) b.now) ≡ Ok tt }
     ensures { places.new ≡ placed places.old (values (run (elements_from n start) b.now)) }
 {
     let mut at = start;
@@ -221,16 +186,12 @@ pub fn place_tables(b: &[u8], start: usize, n: u32, places: &mut [u32])
 }
 
 // Whether the elements of n descriptors, themselves fine, are fine, and what each list needs for them: each number stops rising at 65,537.
-pub fn check(b: &[u8], start: usize, n: u32) -> Needed
+pub fn check(b: &[u8], start: usize, n: u32) -> Result<[u32; AREAS], Refusal>
     requires n_in_bounds { (start + 8 * n ≤ length b.now) × (length b.now ≤ 16777216) }
-    requires b_value { verdict (run (many descriptor_at (step 8) n start) b.now) ≡ Verdict.Fine }
+    requires b_value { verdict (run (many descriptor_at (step 8) n start) b.now) ≡ Ok tt }
     ensures { result ≡ needed_for (run (elements_from n start) b.now) }
 {
-    let e = check_elements(b, start, n);
-    let verdict = e.verdict;
-    if let Verdict::Refused(r) = verdict {
-        return counts::refused(r);
-    }
+    let e = check_elements(b, start, n)?;
     let places = e.places;
     let entries = e.entries;
     let mut kind = CHAN;
@@ -250,8 +211,5 @@ pub fn check(b: &[u8], start: usize, n: u32) -> Needed
     counts[row::ENTRIES] = entries[MAPS as usize];
     counts[row::ITEMS] = entries[TTBL as usize];
     counts[row::UNKNOWN] = bounds::sum(0, e.unknown);
-    Needed {
-        verdict: Verdict::Fine,
-        counts,
-    }
+    Ok(counts)
 }

@@ -12,7 +12,6 @@ use Rattle.format.specs.Area.{none}
 use Rattle.format.specs.Provider.{Provider}
 use Rattle.format.specs.Crim.{described_at}
 use Rattle.format.specs.Steps.Needs.{needs_of, plus, needs_all, provider_read, providers_read}
-use Rattle.format.specs.declared.Needed.{Needed}
 
 -- what the answer for a provider tells of its reading
 pub is_needs : (ns : List ℕ) (o : Outcome Provider) (n : Needed) → n ≡ provider_read ns o → n.verdict ≡ verdicts.Fine

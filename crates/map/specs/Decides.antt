@@ -1,14 +1,13 @@
 -- What each test of a map decides, in the order of the tests, and what holds of an accepted map.
 use Prim.{Unit, tt}
-use Rattle.std.specs.Prelude.{ℕ, zero, suc, ◌+◌, ◌-◌, ◌*◌, ◌≤◌, ◌<◌, min, ◌≡◌, List, Bool, true, false, leb, eqb, length}
+use Rattle.std.specs.Prelude.{ℕ, zero, suc, ◌+◌, ◌-◌, ◌*◌, ◌≤◌, ◌<◌, min, ◌≡◌, List, Bool, true, false, leb, eqb, length, Ok, Err, Result}
 use Rattle.std.proofs.Math.Path.{refl, ap}
 use Rattle.std.proofs.Common.{sym, ◌∙◌, arith}
 use borrow.Author.Tests.{le-leb, lt-leb, leb-true, eq-eqb, ne_eqb}
 use Rattle.blob.specs.declared.Refusal.{Refusal}
-use Rattle.blob.specs.declared.Verdict.TheVariants as verdicts
 use Rattle.blob.specs.Le.{le}
 use Rattle.blob.specs.Reading.{Fault, Reading, got, Outcome, done, refused, choose, demand, run, then, ◌>>=◌, number, many, verdict, values}
-use Rattle.blob.proofs.Laws.{fine-done, run_bind, run-number, run_room, run_past, run_holds, run-fails, many_more}
+use Rattle.blob.proofs.Laws.{fine-done, run_bind, run-number, run_room, run_past, run_holds, run-fails, many_more, result_found, result_refused}
 use Rattle.blob.proofs.Finds.{Finds, finds-got, finds-room, finds-choose, finds-demand, finds_bind, finds-next}
 use Rattle.format.specs.Field.{MAPS_map_offset, MAPS_map_signature, VMAP_size_field, VMAP_header, VMAP_size, VMAP_entries_array, VMAP_map_string}
 use Rattle.format.specs.Refuse.{truncated, size_out, offset_out}
@@ -19,8 +18,6 @@ use Rattle.format.specs.Map.{VALUE_MAP, Mapped, VMAP, few, entry_at, value_map_a
 use Rattle.format.specs.declared.Name.{Name}
 use Rattle.format.specs.declared.Map.{Map}
 use Rattle.format.specs.declared.MapEntry.{MapEntry}
-use Rattle.format.specs.declared.MapRead.{MapRead}
-use Rattle.format.specs.declared.MapRead.TheVariants as read
 
 -- a VMAP, its entries aside
 abbrev pub value_map : (at size string count : ℕ) → Name → Map
@@ -38,9 +35,9 @@ value_map at size string count name =
     }
 
 -- what the code answers for a VMAP, from what reading its name finds
-abbrev pub named_map : (at size string count : ℕ) → Outcome Name → MapRead
-named_map at size string count (done name) = read.Map (value_map at size string count name)
-named_map at size string count (refused r) = read.Refused r
+abbrev pub named_map : (at size string count : ℕ) → Outcome Name → Result Map Refusal
+named_map at size string count (done name) = Ok (value_map at size string count name)
+named_map at size string count (refused r) = Err r
 
 -- so many entries from a place on
 abbrev pub entries : ℕ → ℕ → Reading (List MapEntry)
@@ -54,7 +51,7 @@ pub entry_found : (at : ℕ) (s : List ℕ) → run (entry_at at) s ≡ done (en
 unfolding run entry_at
 entry_found at s = simp run-number
 
-pub entries-fine : (n at : ℕ) (s : List ℕ) → verdict (run (entries n at) s) ≡ verdicts.Fine
+pub entries-fine : (n at : ℕ) (s : List ℕ) → verdict (run (entries n at) s) ≡ Ok tt
 unfolding run many
 entries-fine zero at s = refl
 entries-fine (suc n) at s =
@@ -66,16 +63,14 @@ unfolding then
 run-entries f n at s = run_bind _ _ _ ∙ ap (λ o. then o (λ es. run (f es) s)) (fine-done (run (entries n at) s) (entries-fine n at s))
 
 -- the answer for an outcome
-pub is_map : (o : Outcome Mapped) (k : Map) → read.Map k ≡ map_read o → (m : Mapped) × (o ≡ done m) × (k ≡ m.map)
-is_map (done m) k h = (m, refl, cc)
-is_map (refused r) k h = absurd (let z : ◌≡◌ {A = ℕ} 0 1 = cc in omega arith)
+pub is_map : (o : Outcome Mapped) (k : Map) → Ok k ≡ map_read o → (m : Mapped) × (o ≡ done m) × (k ≡ m.map)
+is_map o k h = result_found (λ m. m.map) o k h
 
-pub is_refused : (o : Outcome Mapped) (r : Refusal) → read.Refused r ≡ map_read o → o ≡ refused r
-is_refused (done m) r h = absurd (let z : ◌≡◌ {A = ℕ} 0 1 = cc in omega arith)
-is_refused (refused q) r h = cc
+pub is_refused : (o : Outcome Mapped) (r : Refusal) → Err r ≡ map_read o → o ≡ refused r
+is_refused o r h = result_refused (λ m. m.map) o r h
 
-pub refuses : (o : Outcome Mapped) (x y : Refusal) → x ≡ y → o ≡ refused y → read.Refused x ≡ map_read o
-refuses o x y p q = ap read.Refused p ∙ sym (ap map_read q)
+pub refuses : (o : Outcome Mapped) (x y : Refusal) → x ≡ y → o ≡ refused y → Err x ≡ map_read o
+refuses o x y p q = ap Err p ∙ sym (ap map_read q)
 
 -- of two tests with one refusal the second fails where the first holds
 either_fails : {A : Type 0} (t u : Bool) (r : Fault) (k : Reading A) (s : List ℕ) → (t ≡ true → u ≡ false) → run (demand t r (demand u r k)) s ≡ refused (r.told (length s))

@@ -1,12 +1,11 @@
 -- The maps of a MAPS as one row: map 0, then those that the offsets name.
 use Prim.Native.Nat.{ℕ, zero, suc, ◌+◌, ◌-◌, ◌*◌, ◌≤◌, ◌<◌}
-use Rattle.std.specs.Prelude.{◌≡◌, List, [], ◌∷◌, Bool, true, false, leb, eqb, length}
+use Rattle.std.specs.Prelude.{◌≡◌, List, [], ◌∷◌, Bool, true, false, leb, eqb, length, Ok, Err}
 use Rattle.std.proofs.Math.Path.{refl, ap, sym}
 use Rattle.std.proofs.Common.{◌∙◌, leb-true, leb-false, eq-eqb, ne_eqb}
 use native.Mathlib.Omega.{arith}
 use Rattle.std.proofs.Math.Dec.{eqb-suc-zero}
 use Rattle.blob.specs.declared.Refusal.{Refusal}
-use Rattle.blob.specs.declared.Verdict.TheVariants as verdicts
 use Rattle.blob.specs.Le.{le}
 use Rattle.blob.specs.Reading.{Reading, got, room, Outcome, done, refused, choose, run, then, ◌>>=◌, number, many, verdict}
 use Rattle.blob.proofs.Laws.{not_fine, run_bind, run-number, run_room, run_past, bind_same, many-same}
@@ -18,7 +17,6 @@ use Rattle.format.specs.Field.{table_size, MAPS_offsets_array}
 use Rattle.format.specs.Table.{MAPS, header_length}
 use Rattle.format.specs.Definition.{step}
 use Rattle.format.specs.Map.{Mapped, map_at, maps_at}
-use Rattle.format.specs.declared.EndRead.TheVariants as ends
 use Rattle.format.specs.declared.Header.{Header}
 use Rattle.map.specs.Until.{map-until}
 use Rattle.map.specs.Decides.{Told, map-told}
@@ -82,14 +80,11 @@ module _ (R : Region) (at size : ℕ) (s : List ℕ) where
           run-number _ _ _ _ ∙ map-until R (le 4 s place) s ∙ sym (listed-word _ (at + 12) first place s (le 4 s place) (λ t. omega arith) refl)
 
 module _ (at : ℕ) (h : Header) (s : List ℕ) where
-  pub maps-refused : (r : Refusal) → ends.Refused r ≡ end_read (end (length s)) (region at h.size s) → run (maps_at at h) s ≡ refused r
+  pub maps-refused : (r : Refusal) → Err r ≡ end_read (end (length s)) (region at h.size s) → run (maps_at at h) s ≡ refused r
   unfolding maps_at then
   maps-refused r f = run_bind _ _ _ ∙ rw (no_end (end (length s)) (region at h.size s) r f)
 
-  pub maps-never : (r : Refusal) → ends.Refused r ≡ end_read (end (length s)) (region at h.size s) → verdict (run (maps_at at h) s) ≡ verdicts.Fine → ⊥
-  maps-never r f v = not_fine r (sym (ap verdict (maps-refused r f)) ∙ v)
-
-  module _ (e : ℕ) (f : ends.End e ≡ end_read (end (length s)) (region at h.size s)) where
+  module _ (e : ℕ) (f : Ok e ≡ end_read (end (length s)) (region at h.size s)) where
     opened : run (maps_at at h) s ≡ run (behind (is_end (end (length s)) (region at h.size s) e f).0 at h.size h.count) s
     unfolding maps_at then
     opened = run_bind _ _ _ ∙ ap (λ o. then o (λ R. run (behind R at h.size h.count) s)) (is_end (end (length s)) (region at h.size s) e f).1
@@ -103,7 +98,7 @@ module _ (at : ℕ) (h : Header) (s : List ℕ) where
         ∙ behind-listed _ at h.size s h.count g
         ∙ ap (λ x. run (listed x (at + 12) h.count) s) (sym (is_end (end (length s)) (region at h.size s) e f).2)
 
-    pub maps-room : at + 16 ≤ length s → verdict (run (maps_at at h) s) ≡ verdicts.Fine → at + 12 + 4 * h.count ≤ length s
+    pub maps-room : at + 16 ≤ length s → verdict (run (maps_at at h) s) ≡ Ok tt → at + 12 + 4 * h.count ≤ length s
     maps-room a v = go (leb (at + 12 + 4 * h.count) (length s)) refl
       where
         go : (t : Bool) → leb (at + 12 + 4 * h.count) (length s) ≡ t → at + 12 + 4 * h.count ≤ length s

@@ -1,9 +1,8 @@
 -- One map more: what it makes of the maps that are left, of the count of entries, and of the words of lists 7 and 8.
-use Rattle.std.specs.Prelude.{ℕ, ◌+◌, ◌-◌, ◌*◌, ◌≤◌, ◌<◌, ◌≡◌, refl, List, ◌∷◌, ◌++◌, length}
+use Rattle.std.specs.Prelude.{ℕ, ◌+◌, ◌-◌, ◌*◌, ◌≤◌, ◌<◌, ◌≡◌, refl, List, ◌∷◌, ◌++◌, length, Ok, Err, Result}
 use Rattle.std.proofs.Math.Path.{ap}
 use Rattle.std.proofs.Common.{sym, ◌∙◌}
 use Rattle.blob.specs.declared.Refusal.{Refusal}
-use Rattle.blob.specs.declared.Verdict.TheVariants as verdicts
 use Rattle.blob.specs.Laid.{laid, flat}
 use Rattle.blob.specs.Reading.{Outcome, done, run, many, verdict, values}
 use Rattle.blob.proofs.Laws.{not_fine, many_more, many-stop, many-length, values-more, values-none, fill_more, length-flat}
@@ -15,8 +14,6 @@ use Rattle.format.specs.Steps.Needs.{total, entry_count}
 use Rattle.format.proofs.Theorems.Counting as counting
 use Rattle.format.specs.Lists.{map_words, map_entry_words, map_list}
 use Rattle.format.specs.declared.Map.{Map}
-use Rattle.format.specs.declared.MapRead.TheVariants as read
-use Rattle.format.specs.declared.EntriesRead.{EntriesRead}
 use Rattle.map.specs.Decides.{entries, entries-fine, Told, is_map, is_refused}
 use Rattle.map.specs.Listed.{listed_at, listed-told}
 
@@ -32,7 +29,7 @@ abbrev pub entries_words : List Mapped → List ℕ
 entries_words ms = flat (λ m. flat map_entry_words m.entries) ms
 
 -- what the code answers once so many entries were counted
-abbrev pub counted_from : ℕ → Outcome (List Mapped) → EntriesRead
+abbrev pub counted_from : ℕ → Outcome (List Mapped) → Result ℕ Refusal
 counted_from n o = counting.counted_from (λ m. length m.entries) n o
 
 -- the words of a map come before those of others
@@ -50,11 +47,11 @@ unfolding total
 count_none e start first s left place h = ap entry_count (values-none (listed_at e start first) (step 4) left place s h)
 
 module _ (e start first : ℕ) (s : List ℕ) (left place : ℕ) (h : 0 < left) where
-  pub never_refused : (r : Refusal) → read.Refused r ≡ map_read (run (listed_at e start first place) s) → verdict (unread e start first s left place) ≡ verdicts.Fine → ⊥
+  pub never_refused : (r : Refusal) → Err r ≡ map_read (run (listed_at e start first place) s) → verdict (unread e start first s left place) ≡ Ok tt → ⊥
   never_refused r f v =
       not_fine r (sym (many-stop (listed_at e start first) (step 4) left place s r h (is_refused _ r f)) ∙ v)
 
-  module _ (i : e ≤ length s) (x : Map) (f : read.Map x ≡ map_read (run (listed_at e start first place) s)) where
+  module _ (i : e ≤ length s) (x : Map) (f : Ok x ≡ map_read (run (listed_at e start first place) s)) where
     -- the map that was read
     abbrev m : Mapped
     m = (is_map (run (listed_at e start first place) s) x f).0
@@ -83,8 +80,8 @@ module _ (e start first : ℕ) (s : List ℕ) (left place : ℕ) (h : 0 < left) 
     next-counted n r q =
         counting.counted-more (λ m. length m.entries) (listed_at e start first) (step 4) left place s m h found n r (q ∙ ap (λ k. capped (n + k)) (sym its_count))
 
-    module _ (v : verdict (unread e start first s left place) ≡ verdicts.Fine) where
-      pub next-fine : verdict (unread e start first s (left - 1) (place + 4)) ≡ verdicts.Fine
+    module _ (v : verdict (unread e start first s left place) ≡ Ok tt) where
+      pub next-fine : verdict (unread e start first s (left - 1) (place + 4)) ≡ Ok tt
       next-fine = sym (many_more (listed_at e start first) (step 4) left place s m h found) ∙ v
 
       pub next-count : entry_count (values (unread e start first s left place)) ≡ x.count + entry_count (values (unread e start first s (left - 1) (place + 4)))

@@ -15,7 +15,7 @@ ghost use Rattle.format.specs.Name.{name_at};
 ghost use Rattle.map.specs.Decides.{value_map, named_map, entry, entries};
 ghost use Rattle.map.specs.Listed.{listed_at, listed};
 
-use blob::{Refusal, Verdict};
+use blob::Refusal;
 use format::field::{
     MAPS_MAP_OFFSET, MAPS_MAP_SIGNATURE, MAPS_OFFSETS_ARRAY, MAPS_SIZE, VMAP_ENTRIES_ARRAY,
     VMAP_HEADER, VMAP_MAP_STRING, VMAP_SIZE, VMAP_SIZE_FIELD,
@@ -23,7 +23,7 @@ use format::field::{
 use format::kind::{BIT_MAP, OTHER_MAP, VALUE_MAP};
 use format::list::width;
 use format::signature::{BMAP, VMAP};
-use format::{EndRead, EntriesRead, Header, Map, MapRead, Name};
+use format::{Header, Map, Name};
 use name::absent;
 
 // How many of so many bytes from a place on lie before an end.
@@ -69,31 +69,27 @@ fn value_map(at: usize, size: u32, string: u32, count: u32, name: Name) -> Map
 }
 
 // The same with the name that its string offset tells.
-fn named_map(b: &[u8], at: usize, size: u32, string: u32, count: u32) -> MapRead
+fn named_map(b: &[u8], at: usize, size: u32, string: u32, count: u32) -> Result<Map, Refusal>
     requires { (at + size ≤ length b.now) × (length b.now ≤ 16777216) × (16 + 8 * count ≤ size) }
     ensures { result ≡ named_map at size string count (run (name_at blob_end VMAP_map_string string) b.now) }
 {
-    match name::check(b, b.len(), VMAP_MAP_STRING, string) {
-        Verdict::Fine => {
-            let name = name::name_of(b, b.len(), VMAP_MAP_STRING, string);
-            MapRead::Map(value_map(at, size, string, count, name))
-        }
-        Verdict::Refused(r) => MapRead::Refused(r),
-    }
+    name::check(b, b.len(), VMAP_MAP_STRING, string)?;
+    let name = name::name_of(b, b.len(), VMAP_MAP_STRING, string);
+    Ok(value_map(at, size, string, count, name))
 }
 
 // The VMAP at a place where a signature stands.
-fn value_map_at(b: &[u8], end: usize, at: usize) -> MapRead
+fn value_map_at(b: &[u8], end: usize, at: usize) -> Result<Map, Refusal>
     requires { (at + 4 ≤ length b.now) × (end ≤ length b.now) × (length b.now ≤ 16777216) }
     ensures { result ≡ map_read (run (value_map_at (until end) at) b.now) }
 {
     if b.len() - at < 8 {
-        return MapRead::Refused(bounds::truncated(b.len(), VMAP_SIZE_FIELD, at, 8));
+        return Err(bounds::truncated(b.len(), VMAP_SIZE_FIELD, at, 8));
     }
     let size = blob::word(b, at + 4);
     let bytes = cut(size, at, end);
     if bytes < 16 {
-        return MapRead::Refused(Refusal {
+        return Err(Refusal {
             code: 1,
             field: VMAP_HEADER,
             place: at as u64,
@@ -102,12 +98,12 @@ fn value_map_at(b: &[u8], end: usize, at: usize) -> MapRead
         });
     }
     if bytes < size {
-        return MapRead::Refused(bounds::size_out(VMAP_SIZE, at, size));
+        return Err(bounds::size_out(VMAP_SIZE, at, size));
     }
     let string = blob::word(b, at + 8);
     let count = blob::word(b, at + 12);
     if (size as usize) < 16 + 8 * (count as usize) {
-        return MapRead::Refused(bounds::size_out(VMAP_ENTRIES_ARRAY, at, size));
+        return Err(bounds::size_out(VMAP_ENTRIES_ARRAY, at, size));
     }
     named_map(b, at, size, string, count)
 }
@@ -131,26 +127,26 @@ fn other_map(end: usize, at: usize, signature: u32) -> Map
 }
 
 // The map at a place, in a region that ends at `end`.
-fn map_at(b: &[u8], end: usize, at: usize) -> MapRead
+fn map_at(b: &[u8], end: usize, at: usize) -> Result<Map, Refusal>
     requires { (end ≤ length b.now) × (length b.now ≤ 16777216) }
     ensures { result ≡ map_read (run (map_at (until end) at) b.now) }
 {
     if b.len() < at {
-        return MapRead::Refused(bounds::offset_out(b.len(), MAPS_MAP_OFFSET, at));
+        return Err(bounds::offset_out(b.len(), MAPS_MAP_OFFSET, at));
     }
     if b.len() - at < 4 {
-        return MapRead::Refused(bounds::truncated(b.len(), MAPS_MAP_SIGNATURE, at, 4));
+        return Err(bounds::truncated(b.len(), MAPS_MAP_SIGNATURE, at, 4));
     }
     let signature = blob::word(b, at);
     if signature == VMAP {
         return value_map_at(b, end, at);
     }
-    MapRead::Map(other_map(end, at, signature))
+    Ok(other_map(end, at, signature))
 }
 
 // The map whose offset word stands at a place. The offsets start behind a word that is not read: it stands for map 0, which comes first
 // behind the offsets.
-fn listed_at(b: &[u8], end: usize, start: usize, first: usize, place: usize) -> MapRead
+fn listed_at(b: &[u8], end: usize, start: usize, first: usize, place: usize) -> Result<Map, Refusal>
     requires { (end ≤ length b.now) × (place + 4 ≤ length b.now) × (length b.now ≤ 16777216) }
     ensures { result ≡ map_read (run (listed_at end start first place) b.now) }
 {
@@ -161,39 +157,29 @@ fn listed_at(b: &[u8], end: usize, start: usize, first: usize, place: usize) -> 
 }
 
 // How many entries the maps have, n offsets from `start` on, the first of them that of map 0.
-fn counted(b: &[u8], end: usize, start: usize, n: u32) -> EntriesRead
+fn counted(b: &[u8], end: usize, start: usize, n: u32) -> Result<u32, Refusal>
     requires { (end ≤ length b.now) × (start + 4 * n ≤ length b.now) × (length b.now ≤ 16777216) }
     ensures { result ≡ maps_read (run (listed end start n) b.now) }
 {
     let first = start + 4 * (n as usize);
-    let mut place = start;
-    let mut left = n;
     let mut entries = 0;
-    while 0 < left {
-        match listed_at(b, end, start, first, place) {
-            MapRead::Refused(r) => return EntriesRead::Refused(r),
-            MapRead::Map(m) => entries = bounds::sum(entries, m.count),
-        }
-        place += 4;
-        left -= 1;
+    for i in 0..n as usize {
+        let m = listed_at(b, end, start, first, start + 4 * i)?;
+        entries = bounds::sum(entries, m.count);
     }
-    EntriesRead::Entries(entries)
+    Ok(entries)
 }
 
 // Whether the MAPS whose header stands at a place is fine, and how many entries its maps have.
-pub fn check(b: &[u8], at: usize, h: Header) -> EntriesRead
+pub fn check(b: &[u8], at: usize, h: Header) -> Result<u32, Refusal>
     requires { (at + 16 ≤ length b.now) × (length b.now ≤ 16777216) }
     ensures { result ≡ maps_read (run (maps_at at h) b.now) }
 {
-    match bounds::region_end(b, MAPS_SIZE, at, h.size, 16) {
-        EndRead::Refused(r) => EntriesRead::Refused(r),
-        EndRead::End(end) => {
-            if b.len() < at + 12 + 4 * (h.count as usize) {
-                return EntriesRead::Refused(bounds::size_out(MAPS_OFFSETS_ARRAY, at, h.size));
-            }
-            counted(b, end, at + 12, h.count)
-        }
+    let end = bounds::region_end(b, MAPS_SIZE, at, h.size, 16)?;
+    if b.len() < at + 12 + 4 * (h.count as usize) {
+        return Err(bounds::size_out(MAPS_OFFSETS_ARRAY, at, h.size));
     }
+    counted(b, end, at + 12, h.count)
 }
 
 // Stores a map's words from a place of the area on; so many entries were stored before its own.
@@ -222,7 +208,7 @@ fn put_map(area: &mut [u32], to: usize, before: u32, m: Map)
 // Stores the words of n maps; so many entries were stored before theirs, and so many with theirs.
 fn put_maps(b: &[u8], end: usize, start: usize, n: u32, before: u32, area: &mut [u32]) -> u32
     requires end_in_bounds { (end ≤ length b.now) × (start + 4 * n ≤ length b.now) × (length b.now ≤ 16777216) }
-    requires b_value { verdict (run (listed end start n) b.now) ≡ Verdict.Fine }
+    requires b_value { verdict (run (listed end start n) b.now) ≡ Ok tt }
     requires n_in_bounds { width MAPS * n ≤ length area.old }
     requires b_bound { before + entry_count (values (run (listed end start n) b.now)) ≤ 65536 }
     ensures value { result ≡ before + entry_count (values (run (listed end start n) b.now)) }
@@ -234,7 +220,7 @@ fn put_maps(b: &[u8], end: usize, start: usize, n: u32, before: u32, area: &mut 
     let mut entries = before;
     let mut to = 0;
     while 0 < left {
-        let MapRead::Map(m) = listed_at(b, end, start, first, place) else {
+        let Ok(m) = listed_at(b, end, start, first, place) else {
             return before;
         };
         put_map(area, to, entries, m);
@@ -250,15 +236,13 @@ fn put_maps(b: &[u8], end: usize, start: usize, n: u32, before: u32, area: &mut 
 // back how many were, with theirs.
 pub fn fill_maps(b: &[u8], at: usize, h: Header, before: u32, area: &mut [u32]) -> u32
     requires at_in_bounds { (at + 16 ≤ length b.now) × (length b.now ≤ 16777216) }
-    requires b_value { verdict (run (maps_at at h) b.now) ≡ Verdict.Fine }
+    requires b_value { verdict (run (maps_at at h) b.now) ≡ Ok tt }
     requires count_in_bounds { width MAPS * h.count ≤ length area.old }
     requires b_bound { before + entry_count (values (run (maps_at at h) b.now)) ≤ 65536 }
     ensures value { result ≡ before + entry_count (values (run (maps_at at h) b.now)) }
     ensures area_after { area.new ≡ laid area.old 0 (flat (λ e. e) (map_list before (values (run (maps_at at h) b.now)))) }
 {
-    let EndRead::End(end) = bounds::region_end(b, MAPS_SIZE, at, h.size, 16) else {
-        return before;
-    };
+    let end = bounds::region_end(b, MAPS_SIZE, at, h.size, 16).unwrap();
     put_maps(b, end, at + 12, h.count, before, area)
 }
 
@@ -290,7 +274,7 @@ fn put_entries(b: &[u8], start: usize, n: u32, area: &mut [u32], from: usize)
 // Stores the words of the entries of n maps; hands back how many words they are.
 fn put_map_entries(b: &[u8], end: usize, start: usize, n: u32, area: &mut [u32]) -> usize
     requires end_in_bounds { (end ≤ length b.now) × (start + 4 * n ≤ length b.now) × (length b.now ≤ 16777216) }
-    requires b_value { verdict (run (listed end start n) b.now) ≡ Verdict.Fine }
+    requires b_value { verdict (run (listed end start n) b.now) ≡ Ok tt }
     requires b_in_bounds { width ENTRIES * entry_count (values (run (listed end start n) b.now)) ≤ length area.old }
     ensures value { result ≡ width ENTRIES * entry_count (values (run (listed end start n) b.now)) }
     ensures area_after { area.new ≡ laid area.old 0 (flat (λ m. flat map_entry_words m.entries) (values (run (listed end start n) b.now))) }
@@ -300,7 +284,7 @@ fn put_map_entries(b: &[u8], end: usize, start: usize, n: u32, area: &mut [u32])
     let mut left = n;
     let mut to = 0;
     while 0 < left {
-        let MapRead::Map(m) = listed_at(b, end, start, first, place) else {
+        let Ok(m) = listed_at(b, end, start, first, place) else {
             return 0;
         };
         put_entries(b, m.offset as usize + 16, m.count, area, to);
@@ -314,13 +298,11 @@ fn put_map_entries(b: &[u8], end: usize, start: usize, n: u32, area: &mut [u32])
 // Stores list 8's words of the maps of a MAPS that `check` found fine; hands back how many words they are.
 pub fn fill_entries(b: &[u8], at: usize, h: Header, area: &mut [u32]) -> usize
     requires at_in_bounds { (at + 16 ≤ length b.now) × (length b.now ≤ 16777216) }
-    requires b_value { verdict (run (maps_at at h) b.now) ≡ Verdict.Fine }
+    requires b_value { verdict (run (maps_at at h) b.now) ≡ Ok tt }
     requires b_in_bounds { width ENTRIES * entry_count (values (run (maps_at at h) b.now)) ≤ length area.old }
     ensures value { result ≡ width ENTRIES * entry_count (values (run (maps_at at h) b.now)) }
     ensures area_after { area.new ≡ laid area.old 0 (flat (λ m. flat map_entry_words m.entries) (values (run (maps_at at h) b.now))) }
 {
-    let EndRead::End(end) = bounds::region_end(b, MAPS_SIZE, at, h.size, 16) else {
-        return 0;
-    };
+    let end = bounds::region_end(b, MAPS_SIZE, at, h.size, 16).unwrap();
     put_map_entries(b, end, at + 12, h.count, area)
 }

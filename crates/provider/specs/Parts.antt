@@ -25,7 +25,6 @@ use Rattle.format.specs.declared.Guid.{Guid}
 use Rattle.format.specs.declared.Descriptor.{Descriptor}
 use Rattle.format.specs.declared.Wevt.{Wevt}
 use Rattle.format.specs.declared.WevtRead.TheVariants as wevt
-use Rattle.format.specs.declared.Needed.{Needed}
 use Rattle.element.specs.Counted.{needs_of, needed_for}
 
 -- what each list needs for a provider with such a header, whose elements need so much

@@ -1,10 +1,10 @@
 -- The invariant: what is left decides. The kept tables of the kinds that are left, with what was counted before, need what all do.
+use Rattle.std.specs.Prelude.{Ok}
 use Prim.Native.Nat.{◌+◌, ◌-◌}
 use mathlib.Core.Path.{ap, sym, ◌∙◌, subst}
 use native.Mathlib.Omega.{arith}
 use borrow.Author.Rules.{rules}
 use lib.ListN.{length}
-use Rattle.blob.specs.declared.Verdict.TheVariants as verdicts
 use Rattle.blob.specs.Reading.{run, values}
 use Rattle.format.specs.Area.{none}
 use Rattle.format.specs.Table.{MAPS, TTBL}
@@ -12,7 +12,7 @@ use Rattle.format.specs.Provider.{elements_from}
 use Rattle.format.specs.Lists.{kept}
 use Rattle.format.specs.Answer.{capped}
 use Rattle.format.specs.Steps.Needs.{modest}
-use Rattle.blob.proofs.Laws.{fine-done}
+use Rattle.blob.proofs.Laws.{handed_on, fine-done}
 use native.Mathlib.Nat.{zero-add}
 use Rattle.counts.specs.Short.{modest-set}
 use Rattle.element.specs.Kinds.{kept_from, kept-all, kept-none, kept-header}
@@ -21,23 +21,23 @@ use Rattle.element.specs.Counted.{needed_for, is_elements, no-elements, counts-t
 use Rattle.element.proofs.check.Goals as goal
 use Rattle.element.proofs.check.Goals.{then-place, else-place}
 
-pub returns-in-Refused : goal.returns-in-Refused
-returns-in-Refused c =
-    c.refused.ensures ∙ sym (ap needed_for (no-elements (run (elements_from c.args.n c.args.start) c.args.b.now) c.check_elements-e.result _ c.check_elements-e.ensures c.in-Refused.is))
+pub returns-in_err-e : goal.returns-in_err-e
+returns-in_err-e c =
+    handed_on c.from_residual.ensures.1 (sym (ap needed_for (no-elements (run (elements_from c.args.n c.args.start) c.args.b.now) _ c.in_err-e.ensures)))
 
 pub loop-left-init : goal.loop-left-init
 loop-left-init c =
     let o = run (elements_from c.args.n c.args.start) c.args.b.now in
-    let e = is_elements o c.check_elements-e.result c.check_elements-e.ensures c.in_default.is in
+    let e = is_elements o _ c.in_ok-e.ensures in
     (omega arith, omega arith, omega arith, search rules, e.0, e.1, ap (grown_all none) (sym (kept-all (values o))), ap (λ ts. 0 + length ts) (sym (kept-all (values o))) ∙ zero-add (length (kept (values o))))
 
 pub returns : goal.returns
 unfolding grown_all
 returns c =
     let o = run (elements_from c.args.n c.args.start) c.args.b.now in
-    let e = is_elements o c.check_elements-e.result c.check_elements-e.ensures c.in_default.is in
+    let e = is_elements o _ c.in_ok-e.ensures in
     let n = kept-none (values o) c.loop-left.left c.loop-left.kind c.loop-left-test.false in
-    ap (λ ns. record { verdict = verdicts.Fine; counts = ns })
+    ap Ok
     (counts-told c.args.b.now c.args.n c.args.start c.loop-left.invariant.4 c.loop-left.counts (sym (ap (grown_all c.loop-left.counts) n) ∙ c.loop-left.invariant.6) c.loop-left.tables _ _ _ (omega arith)
     (omega (arith, c.loop-left.invariant.7, ap (λ ts. length ts) n)) (e.2 MAPS (omega arith) (omega arith)) (e.2 TTBL (omega arith) (omega arith)) (c.sum.ensures ∙ ap (λ u. capped (0 + u)) e.3))
     ∙ sym (ap needed_for (fine-done o c.loop-left.invariant.4))

@@ -1,8 +1,8 @@
 -- The invariant: what is left decides. The kept tables of the kinds that are left, with what was counted before, need what all do.
+use Rattle.std.specs.Prelude.{Ok}
 use Prim.Native.Nat.{◌+◌, ◌≤◌}
 use mathlib.Core.Path.{◌≡◌}
 use lib.ListN.{length}
-use Rattle.blob.specs.declared.Verdict.TheVariants as verdicts
 use Rattle.blob.specs.Reading.{run, verdict, values}
 use Rattle.format.specs.Area.{none}
 use Rattle.format.specs.Provider.{elements_from}
@@ -19,7 +19,7 @@ invariant-loop-left l =
     × (l.kind + l.left ≡ 9)
     × (l.tables + l.left ≤ 8)
     × modest l.counts
-    × (verdict (run (elements_from l.n l.start) l.b) ≡ verdicts.Fine)
+    × (verdict (run (elements_from l.n l.start) l.b) ≡ Ok tt)
     × Standing l.places (values (run (elements_from l.n l.start) l.b))
     × (grown_all l.counts (kept_from (values (run (elements_from l.n l.start) l.b)) l.left l.kind) ≡ grown_all none (kept (values (run (elements_from l.n l.start) l.b))))
     × (l.tables + length (kept_from (values (run (elements_from l.n l.start) l.b)) l.left l.kind) ≡ length (kept (values (run (elements_from l.n l.start) l.b))))

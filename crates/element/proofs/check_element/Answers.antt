@@ -1,14 +1,15 @@
 -- By what was found of the header.
-use mathlib.Core.Path.{sym, ◌∙◌}
+use mathlib.Core.Path.{◌∙◌}
 use native.Mathlib.Omega.{arith}
+use Rattle.blob.proofs.Laws.{handed_on}
 use Rattle.element.specs.Checked.{checks_refused, checks_table, header-fits}
 use Rattle.element.proofs.check_element.Goals as goal
 
-pub returns-in-Refused : goal.returns-in-Refused
-returns-in-Refused c = checks_refused _ _ _ (omega arith) _ (sym c.in-Refused.is ∙ c.header_at.ensures)
+pub returns-in_err-h : goal.returns-in_err-h
+returns-in_err-h c = handed_on c.from_residual.ensures.1 (checks_refused _ _ _ (omega arith) _ c.in_err-h.ensures)
 
 pub check_table-requires : goal.check_table-requires
-check_table-requires c = let f = header-fits _ _ _ (omega arith) _ (sym c.in-Header.is ∙ c.header_at.ensures) in omega arith
+check_table-requires c = let f = header-fits _ _ _ (omega arith) _ c.in_ok-h.ensures in omega arith
 
-pub returns-in-Header : goal.returns-in-Header
-returns-in-Header c = c.check_table.ensures ∙ checks_table _ _ _ (omega arith) _ (sym c.in-Header.is ∙ c.header_at.ensures)
+pub returns : goal.returns
+returns c = c.check_table.ensures ∙ checks_table _ _ _ (omega arith) _ c.in_ok-h.ensures

@@ -1,7 +1,9 @@
 -- Each kind's own check.
-use mathlib.Core.Path.{ap, ◌∙◌}
+use mathlib.Core.Path.{ap, sym, ◌∙◌}
 use native.Mathlib.Omega.{arith}
-use Rattle.element.specs.Checked.{without_entries, checks_events, checks_maps, checks_templates, checks_definitions, record_least}
+use Rattle.blob.proofs.Laws.{handed_on, fine-value, refused-value}
+use Rattle.format.specs.Steps.Needs.{count_read}
+use Rattle.element.specs.Checked.{checks_events, checks_maps, checks_templates, checks_definitions, record_least}
 use Rattle.element.proofs.check_table.Goals as goal
 
 pub check_definitions-requires : goal.check_definitions-requires
@@ -9,9 +11,16 @@ check_definitions-requires c =
     let l = record_least _ (omega arith) (omega arith) c.in_default.in_default-own.rest.0.1 c.in_default.in_default-own.rest.1 in
     omega arith
 
-pub returns-in_default : goal.returns-in_default
-returns-in_default c =
-    c.no_entries.ensures ∙ ap without_entries c.check_definitions.ensures ∙ checks_definitions _ _ _ _ c.in_default.in_default-own.rest.0.0.1 c.in_default.in_default-own.rest.0.1 c.in_default.in_default-own.rest.1
+pub returns-in_err-check_definitions-in_default : goal.returns-in_err-check_definitions-in_default
+returns-in_err-check_definitions-in_default c =
+    handed_on c.from_residual.ensures.1
+    (sym (ap (count_read (λ ds. 0)) (refused-value _ _ c.in_err-check_definitions-in_default.ensures))
+    ∙ checks_definitions _ _ _ _ c.in_default.in_default-own.rest.0.0.1 c.in_default.in_default-own.rest.0.1 c.in_default.in_default-own.rest.1)
+
+pub returns-in_ok-check_definitions-in_default : goal.returns-in_ok-check_definitions-in_default
+returns-in_ok-check_definitions-in_default c =
+    sym (ap (count_read (λ ds. 0)) (fine-value _ (sym c.in_ok-check_definitions-in_default.ensures)).1)
+    ∙ checks_definitions _ _ _ _ c.in_default.in_default-own.rest.0.0.1 c.in_default.in_default-own.rest.0.1 c.in_default.in_default-own.rest.1
 
 pub returns-in-2 : goal.returns-in-2
 returns-in-2 c = c.check_events.ensures ∙ checks_events _ _ _ _ c.in-2.is

@@ -5,17 +5,16 @@ use borrow.Author.Tests.{leb-true}
 use Rattle.std.proofs.Math.ListN.{length}
 use Rattle.blob.specs.declared.Refusal.{Refusal}
 use Rattle.blob.specs.Reading.{Outcome, done, refused, run}
+use Rattle.blob.proofs.Laws.{result_found, result_refused}
 use Rattle.blob.proofs.Finds.{Finds, finds-got, finds-room, finds-choose, finds-demand, finds_bind}
 use Rattle.format.specs.Region.{end, bounded, region_at, end_read}
 
 module _ {A : Type 0} (told : A → ℕ) where
   pub is_end : (o : Outcome A) (e : ℕ) → Ok e ≡ end_read told o → (a : A) × (o ≡ done a) × (e ≡ told a)
-  is_end (done a) e h = (a, refl, cc)
-  is_end (refused r) e h = absurd (let z : ◌≡◌ {A = ℕ} 0 1 = cc in omega arith)
+  is_end o e h = result_found told o e h
 
   pub no_end : (o : Outcome A) (r : Refusal) → Err r ≡ end_read told o → o ≡ refused r
-  no_end (done a) r h = absurd (let z : ◌≡◌ {A = ℕ} 0 1 = cc in omega arith)
-  no_end (refused q) r h = cc
+  no_end o r h = result_refused told o r h
 
 pub is_place : (o : Outcome ℕ) (e : ℕ) → Ok e ≡ end_read (λ a. a) o → o ≡ done e
 is_place o e h = let t = is_end (λ a. a) o e h in t.1 ∙ ap done (sym t.2)

@@ -1,7 +1,7 @@
 -- A law of Decides for each of the tests, in their order.
+use Rattle.std.specs.Prelude.{Ok}
 use mathlib.Core.Path.{ap, sym, ◌∙◌}
 use native.Mathlib.Omega.{arith}
-use Rattle.format.specs.declared.MapRead.TheVariants as read
 use Rattle.format.specs.Map.{map_read}
 use Rattle.map.specs.Decides.{refuses, map-past, map-cut, map-value, map_other}
 use Rattle.map.proofs.map_at.Goals as goal
@@ -18,5 +18,5 @@ returns-then-signature-eq-VMAP c =
 
 pub returns : goal.returns
 returns c =
-    ap read.Map c.other_map.ensures
+    ap Ok c.other_map.ensures
     ∙ sym (ap map_read (map_other _ _ _ _ c.word-signature.ensures (omega arith) c.if-signature-eq-VMAP.false))

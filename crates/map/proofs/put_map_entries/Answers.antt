@@ -20,7 +20,7 @@ pub put_entries-requires : goal.put_entries-requires
 put_entries-requires c =
     let h = c.loop-left-test.true in
     let i = c.requires.end_in_bounds.0 in
-    let f = sym c.in-Map.is ∙ c.listed_at.ensures in
+    let f = sym c.in-Ok.is ∙ c.listed_at.ensures in
     (next-inside _ _ _ _ _ _ h i _ f, omega (arith, next-count _ _ _ _ _ _ h i _ f c.loop-left.invariant.3))
 
 pub overflow_add-place : goal.overflow_add-place
@@ -31,7 +31,7 @@ pub loop-left-preserved : goal.loop-left-preserved
 loop-left-preserved c =
     let h = c.loop-left-test.true in
     let i = c.requires.end_in_bounds.0 in
-    let f = sym c.in-Map.is ∙ c.listed_at.ensures in (
+    let f = sym c.in-Ok.is ∙ c.listed_at.ensures in (
       omega arith,
       omega (arith, c.put_entries.auto.area, next-count _ _ _ _ _ _ h i _ f c.loop-left.invariant.3),
       c.put_entries.auto.area ∙ c.loop-left.invariant.2,

@@ -20,13 +20,13 @@ returns-in_default c =
 pub overflow_add-entries : goal.overflow_add-entries
 overflow_add-entries c =
     omega
-    (arith, c.loop-left.invariant.4, c.requires.b_bound, next-count _ _ _ _ _ _ c.loop-left-test.true (omega arith) _ (sym c.in-Map.is ∙ c.listed_at.ensures) c.loop-left.invariant.3)
+    (arith, c.loop-left.invariant.4, c.requires.b_bound, next-count _ _ _ _ _ _ c.loop-left-test.true (omega arith) _ (sym c.in-Ok.is ∙ c.listed_at.ensures) c.loop-left.invariant.3)
 
 pub loop-left-preserved : goal.loop-left-preserved
 loop-left-preserved c =
     let h = c.loop-left-test.true in
     let i = c.requires.end_in_bounds.0 in
-    let f = sym c.in-Map.is ∙ c.listed_at.ensures in (
+    let f = sym c.in-Ok.is ∙ c.listed_at.ensures in (
       omega arith,
       omega (arith, c.put_map.auto.area),
       c.put_map.auto.area ∙ c.loop-left.invariant.2,

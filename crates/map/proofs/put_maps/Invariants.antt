@@ -1,8 +1,8 @@
 -- The invariant: what is left decides. The maps that are left, laid from here, make the area what it shall be, and are fine.
+use Rattle.std.specs.Prelude.{Ok}
 use Prim.Native.Nat.{◌+◌, ◌*◌, ◌≤◌}
 use mathlib.Core.Path.{◌≡◌}
 use lib.ListN.{length}
-use Rattle.blob.specs.declared.Verdict.TheVariants as verdicts
 use Rattle.blob.specs.Laid.{laid}
 use Rattle.blob.specs.Reading.{run, verdict, values}
 use Rattle.format.specs.Area.{MAPS, width}
@@ -16,7 +16,7 @@ invariant-loop-left l =
     (l.place + 4 * l.left ≤ length l.b)
     × (l.to + width MAPS * l.left ≤ length l.area)
     × (length l.area ≡ length l.initial.area)
-    × (verdict (unread l.end l.start l.first l.b l.left l.place) ≡ verdicts.Fine)
+    × (verdict (unread l.end l.start l.first l.b l.left l.place) ≡ Ok tt)
     × (l.entries + entry_count (values (unread l.end l.start l.first l.b l.left l.place)) ≡ l.before + entry_count (values (run (listed l.end l.start l.n) l.b)))
     × (laid l.initial.area 0 (maps_words l.before (values (run (listed l.end l.start l.n) l.b))) ≡ laid l.area l.to (maps_words l.entries (values (unread l.end l.start l.first l.b l.left l.place))))
 
