@@ -1,9 +1,8 @@
 -- The providers that are left: what a list has of the next one, and of the others.
-use Rattle.std.specs.Prelude.{ℕ, suc, ◌+◌, ◌-◌, ◌<◌, ◌≤◌, ◌≡◌, refl, List, [], ◌∷◌, ◌++◌, length}
+use Rattle.std.specs.Prelude.{ℕ, suc, ◌+◌, ◌-◌, ◌<◌, ◌≤◌, ◌≡◌, refl, List, [], ◌∷◌, ◌++◌, length, Ok}
 use Rattle.std.proofs.Math.Path.{ap}
 use Rattle.std.proofs.Common.{sym, ◌∙◌, subst, add-one}
 use borrow.Rule.Slice.PartMut.{mid_of, put_mid}
-use Rattle.blob.specs.declared.Verdict.TheVariants as verdicts
 use Rattle.blob.specs.Reading.{Outcome, done, refused, run, many, verdict, values}
 use Rattle.blob.specs.Laid.{flat}
 use Rattle.blob.proofs.Laws.{not_fine, many-empty, many-stop, many_more, values-more}
@@ -16,7 +15,7 @@ use Rattle.format.proofs.Theorems.Grows.{passed_all-tables}
 use Rattle.format.proofs.Theorems.Stored.{Left, left-room, left-more, few-before}
 use Rattle.provided.specs.Provided.{part_by, passed_by, ProviderRoom, ProviderStored}
 
-module _ (s : List ℕ) (left at : ℕ) (h : 0 < left) (v : verdict (run (many described_at (step 20) left at) s) ≡ verdicts.Fine) where
+module _ (s : List ℕ) (left at : ℕ) (h : 0 < left) (v : verdict (run (many described_at (step 20) left at) s) ≡ Ok tt) where
   pub next-provider : (p : Provider) × (run (described_at at) s ≡ done p)
   next-provider = go (run (described_at at) s) refl
     where
@@ -24,7 +23,7 @@ module _ (s : List ℕ) (left at : ℕ) (h : 0 < left) (v : verdict (run (many d
       go (done p) e = (p, refl)
       go (refused r) e = absurd (not_fine r (sym (many-stop described_at (step 20) left at s r h e) ∙ v))
 
-  pub next-fine : verdict (run (many described_at (step 20) (left - 1) (at + 20)) s) ≡ verdicts.Fine
+  pub next-fine : verdict (run (many described_at (step 20) (left - 1) (at + 20)) s) ≡ Ok tt
   next-fine = sym (many_more described_at (step 20) left at s next-provider.0 h next-provider.1) ∙ v
 
   abbrev others : List Provider

@@ -11,7 +11,6 @@ ghost use Rattle.format.specs.Steps.Needs as need;
 ghost use Rattle.format.specs.Steps.Parts as parts;
 ghost use Rattle.areas.specs.Areas.{providers, providers_in, roomy};
 
-use blob::Verdict;
 use format::list::{AREAS, NUMBERS, WORDS};
 
 // Where a walk over the providers stands: the place of the next one's descriptor, and how many are left.
@@ -44,7 +43,7 @@ impl Position {
 // Stores what a list has of n providers that are fine.
 fn fill(b: &[u8], n: u32, list: u32, area: &mut [u32])
     requires n_in_bounds { (16 + 20 * n ≤ length b.now) × (length b.now ≤ 16777216) }
-    requires b_value { verdict (run (providers n) b.now) ≡ Verdict.Fine }
+    requires b_value { verdict (run (providers n) b.now) ≡ Ok tt }
     requires room { parts.Room (parts.parts list 0 none (providers_in n b.now)) (parts.passed_all list none (providers_in n b.now)) area.old }
     ensures { area.new ≡ laid area.old 0 (parts.parts list 0 none (providers_in n b.now)) }
 {
@@ -71,7 +70,7 @@ fn fill_area(
     need: u32,
 ) -> usize
     requires n_in_bounds { (16 + 20 * n ≤ length b.now) × (length b.now ≤ 16777216) }
-    requires b_value { verdict (run (providers n) b.now) ≡ Verdict.Fine }
+    requires b_value { verdict (run (providers n) b.now) ≡ Ok tt }
     requires size_in_bounds { from + size ≤ length words.old }
     requires b_len_bound { (length (parts.parts list 0 none (providers_in n b.now)) ≤ size) × parts.Counted (parts.passed_all list none (providers_in n b.now)) }
     requires b_value_2 { need ≡ 0 → parts.parts list 0 none (providers_in n b.now) ≡ [] }
@@ -95,7 +94,7 @@ pub fn fill_areas(
     words: &mut [u32],
 )
     requires n_in_bounds { (16 + 20 * n ≤ length b.now) × (length b.now ≤ 16777216) }
-    requires b_value { verdict (run (providers n) b.now) ≡ Verdict.Fine }
+    requires b_value { verdict (run (providers n) b.now) ≡ Ok tt }
     requires needs_value { (needs ≡ need.needs_all none (providers_in n b.now)) × (spec.lent_enough capacities words.old ≡ true) }
     requires roomy { roomy capacities (providers_in n b.now) }
     ensures { words.new ≡ spec.filled words.old 0 rows capacities (lists (providers_in n b.now)) }

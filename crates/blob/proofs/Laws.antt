@@ -43,10 +43,10 @@ pub fine-value : {A : Type 0} (o : Outcome A) → verdict o ≡ Ok tt → (a : A
 fine-value (done a) v = (a, refl)
 fine-value (refused r) v = absurd (not_fine r v)
 
--- an outcome that is fine is no error
-pub fine_ok : {A R : Type 0} (f : A → R) (o : Outcome A) → verdict o ≡ Ok tt → IsOk (as_result f o)
-fine_ok f (done a) v = search rules
-fine_ok f (refused r) v = absurd (not_fine r v)
+-- an outcome that is no refusal is answered by no error
+pub not_refused : {A R : Type 0} (f : A → R) (o : Outcome A) → ((r : Refusal) → o ≡ refused r → ⊥) → IsOk (as_result f o)
+not_refused f (done a) n = search rules
+not_refused f (refused r) n = absurd (n r refl)
 
 -- what an answer tells of the outcome that it is for
 pub result_found : {A R : Type 0} (f : A → R) (o : Outcome A) (x : R) → Ok x ≡ as_result f o → (a : A) × (o ≡ done a) × (x ≡ f a)

@@ -1,10 +1,9 @@
 -- What a filler of a list needs of a table that is fine, and that it then has stored what the list has of it.
-use Rattle.std.specs.Prelude.{ℕ, zero, suc, ◌+◌, ◌*◌, ◌≤◌, ◌<◌, ◌≡◌, true, length, get_or, set}
+use Rattle.std.specs.Prelude.{ℕ, zero, suc, ◌+◌, ◌*◌, ◌≤◌, ◌<◌, ◌≡◌, true, length, get_or, set, Ok}
 use Rattle.std.proofs.Math.Path.{refl, ap, sym}
 use Rattle.std.proofs.Common.{◌∙◌, subst, mul-suc, arith, length-append, length-set, get_or-set_same}
 use mathlib.Core.List.{List, [], ◌∷◌, map, append-nil}
 use borrow.Author.Tests.{ne_eqb}
-use Rattle.blob.specs.declared.Verdict.TheVariants as verdicts
 use Rattle.blob.specs.Reading.{Outcome, done, refused, run, many, verdict, values}
 use Rattle.blob.specs.Laid.{flat, flat_append, flat_map, laid}
 use Rattle.blob.proofs.Laws.{fine-value, length-flat}
@@ -67,7 +66,7 @@ items-words n (t ∷ ts) =
     simp (flat_append (λ e. e) (map (item_words n) t.items) (item_list (suc n) ts), length-append, flat_map (λ e. e) (item_words n) t.items, length-flat (item_words n) (width ITEMS) (λ i. refl) t.items, items-words (suc n) ts)
     (omega arith)
 
-module _ (k at : ℕ) (h : Header) (s : List ℕ) (v : verdict (run (table_at k at h) s) ≡ verdicts.Fine) where
+module _ (k at : ℕ) (h : Header) (s : List ℕ) (v : verdict (run (table_at k at h) s) ≡ Ok tt) where
   abbrev found : Outcome Table
   found = run (table_at k at h) s
 
@@ -98,7 +97,7 @@ module _ (k at : ℕ) (h : Header) (s : List ℕ) (v : verdict (run (table_at k 
   abbrev Fills : {B : Type 0} → ℕ → (ℕ → B → List ℕ) → Outcome (List B) → Type 0
   Fills l words o =
       (n : ℕ) (before area : List ℕ) → TablesRoom l n before (only found) area
-      → (verdict o ≡ verdicts.Fine)
+      → (verdict o ≡ Ok tt)
       × (width l * h.count ≤ length area)
       × ((area' : List ℕ) → area' ≡ laid area 0 (flat (words n) (values o)) → TablesStored l n before (only found) area (width l * h.count) before area')
 
@@ -135,7 +134,7 @@ module _ (k at : ℕ) (h : Header) (s : List ℕ) (v : verdict (run (table_at k 
 
   -- list 8: the entries of maps
   pub fills_entries : k ≡ MAPS → (n : ℕ) (before area : List ℕ) → TablesRoom ENTRIES n before (only found) area
-      → (verdict (run (maps_at at h) s) ≡ verdicts.Fine)
+      → (verdict (run (maps_at at h) s) ≡ Ok tt)
       × (width ENTRIES * entry_count (values (run (maps_at at h) s)) ≤ length area)
       × ((m : ℕ) (area' : List ℕ) → m ≡ width ENTRIES * entry_count (values (run (maps_at at h) s))
       → area' ≡ laid area 0 (flat (λ m. flat map_entry_words m.entries) (values (run (maps_at at h) s))) → TablesStored ENTRIES n before (only found) area m before area')
@@ -151,7 +150,7 @@ module _ (k at : ℕ) (h : Header) (s : List ℕ) (v : verdict (run (table_at k 
 
   -- list 7: the maps, whose entries are counted
   pub fills_maps : k ≡ MAPS → (n : ℕ) (before area : List ℕ) → TablesRoom list.MAPS n before (only found) area
-      → (verdict (run (maps_at at h) s) ≡ verdicts.Fine)
+      → (verdict (run (maps_at at h) s) ≡ Ok tt)
       × (width list.MAPS * h.count ≤ length area)
       × (of ENTRIES before + entry_count (values (run (maps_at at h) s)) ≤ 65536)
       × ((m : ℕ) (area' : List ℕ) → m ≡ of ENTRIES before + entry_count (values (run (maps_at at h) s))
@@ -170,7 +169,7 @@ module _ (k at : ℕ) (h : Header) (s : List ℕ) (v : verdict (run (table_at k 
 
   -- list 12: the items, by their templates, which are counted
   pub fills_items : k ≡ TTBL → (n : ℕ) (before area : List ℕ) → TablesRoom ITEMS n before (only found) area
-      → (verdict (run (templates_at at h) s) ≡ verdicts.Fine)
+      → (verdict (run (templates_at at h) s) ≡ Ok tt)
       × (width ITEMS * item_count (values (run (templates_at at h) s)) ≤ length area)
       × (of TEMPLATES before + h.count ≤ 65536)
       × ((m : ℕ) (area' : List ℕ) → m ≡ width ITEMS * item_count (values (run (templates_at at h) s))

@@ -1,13 +1,12 @@
 -- What a list has of the table of a kind that is kept: its rows, or nothing.
 use Prim.{tt}
-use Rattle.std.specs.Prelude.{ℕ, ◌+◌, ◌-◌, ◌≤◌, ◌<◌, refl, Bool, true, List, [], ◌∷◌, ◌++◌, ◌⊎◌, length, eqb}
+use Rattle.std.specs.Prelude.{ℕ, ◌+◌, ◌-◌, ◌≤◌, ◌<◌, refl, Bool, true, List, [], ◌∷◌, ◌++◌, ◌⊎◌, length, eqb, Ok}
 use Rattle.std.proofs.Math.Path.{◌≡◌}
 use Rattle.std.proofs.Common.{ap, ap₂, sym, ◌∙◌, subst, inl, inr, ⊎_elim, arith, ne_eqb, eqb-true}
 use Rattle.std.proofs.Math.Bool.{false}
 use borrow.Rule.Slice.PartMut.{mid_of, put_mid}
 use Rattle.std.proofs.lemmas.Bool.{eqb-false}
 use Rattle.blob.specs.Le.{le}
-use Rattle.blob.specs.declared.Verdict.TheVariants as verdicts
 use Rattle.blob.specs.Reading.{done, choose, run, verdict, values}
 use Rattle.blob.proofs.Laws.{fine-value}
 use Rattle.blob.specs.Places.{Each}
@@ -96,10 +95,10 @@ kept_at s k place = choose (eqb place 4294967295) [] (only (run (table_at k plac
 
 -- it is there, and fine
 abbrev pub Stands : List ℕ → ℕ → ℕ → Type 0
-Stands s k place = (place ≡ 4294967295 → ⊥) → (place + header_length k ≤ length s) × (verdict (run (table_at k place (headed s place)) s) ≡ verdicts.Fine)
+Stands s k place = (place ≡ 4294967295 → ⊥) → (place + header_length k ≤ length s) × (verdict (run (table_at k place (headed s place)) s) ≡ Ok tt)
 
 -- a provider's last table of a kind is kept at its place
-module _ (s : List ℕ) (n at k : ℕ) (v : verdict (run (elements_from n at) s) ≡ verdicts.Fine) (place : ℕ) (p : place ≡ place_of (last_of k (values (run (elements_from n at) s)))) where
+module _ (s : List ℕ) (n at k : ℕ) (v : verdict (run (elements_from n at) s) ≡ Ok tt) (place : ℕ) (p : place ≡ place_of (last_of k (values (run (elements_from n at) s)))) where
   found : (h : place ≡ 4294967295 → ⊥) → run (table_at k place (headed s place)) s ≡ done (kept_here s n at k v place p h).0
   found h =
       let t = kept_here s n at k v place p h in

@@ -1,5 +1,5 @@
 -- What list 10 has of the elements that are left: of the next one, if it is of no known kind, and of those behind it.
-use Rattle.std.specs.Prelude.{ℕ, ◌+◌, ◌-◌, ◌*◌, ◌≤◌, ◌<◌, ◌≡◌, Bool}
+use Rattle.std.specs.Prelude.{ℕ, ◌+◌, ◌-◌, ◌*◌, ◌≤◌, ◌<◌, ◌≡◌, Bool, Ok}
 use Rattle.std.proofs.Math.Path.{refl, ap, ap₂}
 use Rattle.std.proofs.Common.{sym, ◌∙◌, arith, eqb-true}
 use Rattle.std.proofs.Math.Bool.{true, false}
@@ -8,7 +8,6 @@ use Rattle.std.proofs.Math.ListN.{length}
 use Rattle.std.proofs.Math.Dec.{eqb}
 use Rattle.std.proofs.lemmas.Bool.{eqb-false}
 use Rattle.blob.specs.Le.{le}
-use Rattle.blob.specs.declared.Verdict.TheVariants as verdicts
 use Rattle.blob.specs.Reading.{done, run, verdict, values, choose}
 use Rattle.blob.specs.Laid.{laid, laid_more, flat}
 use Rattle.blob.proofs.Laws.{same}
@@ -34,7 +33,7 @@ abbrev pub Rest : ℕ → List Unknown → List Unknown → List ℕ → List �
 Rest number us vs area area' to to' =
     (to + width UNKNOWN * length us ≡ to' + width UNKNOWN * length vs) × (laid area to (flat (unknown_words number) us) ≡ laid area' to' (flat (unknown_words number) vs))
 
-module _ (s : List ℕ) (left at : ℕ) (h : 0 < left) (d : Descriptor) (found : run (descriptor_at at) s ≡ done d) (v : verdict (run (elements_from left at) s) ≡ verdicts.Fine) where
+module _ (s : List ℕ) (left at : ℕ) (h : 0 < left) (d : Descriptor) (found : run (descriptor_at at) s ≡ done d) (v : verdict (run (elements_from left at) s) ≡ Ok tt) where
   abbrev rest : List Element
   rest = values (run (elements_from (left - 1) (at + 8)) s)
 

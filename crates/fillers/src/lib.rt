@@ -16,17 +16,16 @@ ghost use Rattle.format.specs.Area.{width};
 ghost use Rattle.fillers.specs.Kinds.{headed, kept_at, Stands, has_any};
 ghost use Rattle.fillers.specs.Rows.{only, holds_definitions, has_entries, trailing_of};
 
-use blob::Verdict;
 use element::NONE;
 use format::kind::{CHAN, EVNT, KINDS, MAPS, TTBL};
 use format::list::{AREAS, row, width};
-use format::{Descriptor, EndRead, Header, list};
+use format::{Descriptor, Header, list};
 
 // Stores the words of n descriptors that are fine; here and below it hands back how many words they are.
 pub fn fill_descriptors(b: &[u8], start: usize, n: u32, area: &mut [u32]) -> usize
     requires n_in_bounds { start + 8 * n ≤ length b.now }
     requires n_in_bounds_2 { width rows.DESCRIPTORS * n ≤ length area.old }
-    requires b_value { verdict (run (many descriptor_at (step 8) n start) b.now) ≡ Verdict.Fine }
+    requires b_value { verdict (run (many descriptor_at (step 8) n start) b.now) ≡ Ok tt }
     ensures value { result ≡ width rows.DESCRIPTORS * n }
     ensures area_after { area.new ≡ laid area.old 0 (flat descriptor_words (values (run (many descriptor_at (step 8) n start) b.now))) }
 {
@@ -101,7 +100,7 @@ pub struct Trailing {
 // The trailing part of a table of a kind that is known to be fine.
 fn trailing_of(b: &[u8], kind: u32, at: usize, h: Header) -> Trailing
     requires le_kind { (1 ≤ kind) × (kind ≤ 8) × (at + header_length kind ≤ length b.now) × (length b.now ≤ 16777216) }
-    requires b_value { verdict (run (table_at kind at h) b.now) ≡ Verdict.Fine }
+    requires b_value { verdict (run (table_at kind at h) b.now) ≡ Ok tt }
     ensures { result ≡ trailing_of (run (table_at kind at h) b.now) }
 {
     if kind != EVNT {
@@ -112,17 +111,11 @@ fn trailing_of(b: &[u8], kind: u32, at: usize, h: Header) -> Trailing
         };
     }
     let start = at + 16 + 48 * (h.count as usize);
-    match table::table_end(b, EVNT, at, h) {
-        EndRead::Refused(_) => Trailing {
-            extra: 0,
-            start: 0,
-            length: 0,
-        },
-        EndRead::End(end) => Trailing {
-            extra: blob::word(b, at + 12),
-            start: start as u32,
-            length: (end - start) as u32,
-        },
+    let end = table::table_end(b, EVNT, at, h).unwrap();
+    Trailing {
+        extra: blob::word(b, at + 12),
+        start: start as u32,
+        length: (end - start) as u32,
     }
 }
 
@@ -137,7 +130,7 @@ fn put_table(
     area: &mut [u32],
 ) -> usize
     requires le_kind { (1 ≤ kind) × (kind ≤ 8) × (at + header_length kind ≤ length b.now) × (length b.now ≤ 16777216) }
-    requires b_value { verdict (run (table_at kind at h) b.now) ≡ Verdict.Fine }
+    requires b_value { verdict (run (table_at kind at h) b.now) ≡ Ok tt }
     requires tables_room { parts.TablesRoom rows.TABLES number before.old (only (run (table_at kind at h) b.now)) area.old }
     ensures { parts.TablesStored rows.TABLES number before.old (only (run (table_at kind at h) b.now)) area.old result before.new area.new }
 {
@@ -164,7 +157,7 @@ fn put_rows(
     area: &mut [u32],
 ) -> usize
     requires le_kind { (1 ≤ kind) × (kind ≤ 8) × (at + header_length kind ≤ length b.now) × (length b.now ≤ 16777216) }
-    requires b_value { verdict (run (table_at kind at h) b.now) ≡ Verdict.Fine }
+    requires b_value { verdict (run (table_at kind at h) b.now) ≡ Ok tt }
     requires kind_value { has_entries list kind ≡ true }
     requires tables_room { parts.TablesRoom list number before.old (only (run (table_at kind at h) b.now)) area.old }
     ensures { parts.TablesStored list number before.old (only (run (table_at kind at h) b.now)) area.old result before.new area.new }
@@ -250,7 +243,7 @@ pub fn fill_tables(
     area: &mut [u32],
 ) -> usize
     requires n_in_bounds { (start + 8 * n ≤ length b.now) × (length b.now ≤ 16777216) }
-    requires b_value { verdict (run (elements_from n start) b.now) ≡ Verdict.Fine }
+    requires b_value { verdict (run (elements_from n start) b.now) ≡ Ok tt }
     requires tables_room { parts.TablesRoom list number before.old (kept (values (run (elements_from n start) b.now))) area.old }
     ensures { parts.TablesStored list number before.old (kept (values (run (elements_from n start) b.now))) area.old result before.new area.new }
 {
@@ -286,7 +279,7 @@ fn put_unknown(b: &[u8], d: Descriptor, number: u32, area: &mut [u32], to: usize
 // Stores the words of the elements of no known kind.
 pub fn fill_unknown(b: &[u8], start: usize, n: u32, number: u32, area: &mut [u32]) -> usize
     requires n_in_bounds { (start + 8 * n ≤ length b.now) × (length b.now ≤ 16777216) }
-    requires b_value { verdict (run (elements_from n start) b.now) ≡ Verdict.Fine }
+    requires b_value { verdict (run (elements_from n start) b.now) ≡ Ok tt }
     requires b_in_bounds { width rows.UNKNOWN * length (unknowns (values (run (elements_from n start) b.now))) ≤ length area.old }
     ensures value { result ≡ width rows.UNKNOWN * length (unknowns (values (run (elements_from n start) b.now))) }
     ensures area_after { area.new ≡ laid area.old 0 (flat (unknown_words number) (unknowns (values (run (elements_from n start) b.now)))) }

@@ -1,11 +1,9 @@
 -- A reading, way by way, as `read` goes.
-use Rattle.std.specs.Prelude.{ℕ, ◌+◌, ◌*◌, ◌≤◌, ◌<◌, ◌≡◌, Bool, true, false, List, [], ◌∷◌, map, length, take, leb}
+use Rattle.std.specs.Prelude.{ℕ, ◌+◌, ◌*◌, ◌≤◌, ◌<◌, ◌≡◌, Bool, true, false, List, [], ◌∷◌, map, length, take, leb, Ok, Err, Result}
 use Rattle.std.proofs.Math.Path.{refl}
 use Rattle.std.proofs.Common.{◌∙◌, arith, le-leb, leb-true, leb-false}
 use Rattle.std.proofs.lemmas.Bool.{lt-leb}
 use Rattle.blob.specs.declared.Refusal.{Refusal}
-use Rattle.blob.specs.declared.Verdict.{Verdict}
-use Rattle.blob.specs.declared.Verdict.TheVariants as verdicts
 use Rattle.blob.specs.Reading.{Outcome, done, refused, choose, run, then}
 use Rattle.blob.proofs.Laws.{both, choose-done, run_room, run_past}
 use Rattle.blob.proofs.Finds.{Finds, finds-got, finds-room, finds-demand, finds-next}
@@ -18,7 +16,6 @@ use Rattle.format.specs.Lists.{Entry, lists}
 use Rattle.areas.specs.Areas.{providers}
 use Rattle.format.specs.Answer.{own, too_small, moderate, lent_enough, with_room, block, reading, counted, capped}
 use Rattle.format.specs.declared.CrimHeader.{CrimHeader}
-use Rattle.format.specs.declared.CrimRead.TheVariants as headers
 use Rattle.counts.specs.Short.{short}
 
 -- what is read of the block behind its header, whatever is lent, and with capacities
@@ -72,11 +69,11 @@ module _ (bytes words : List ℕ) (capacities : List ℕ) where
           go (refused r) = refl
 
 -- what the answer for the header tells of its reading
-pub is_header : (o : Outcome CrimHeader) (h : CrimHeader) → headers.Header h ≡ crim_read o → o ≡ done h
+pub is_header : (o : Outcome CrimHeader) (h : CrimHeader) → Ok h ≡ crim_read o → o ≡ done h
 is_header (done c) h e = cc
 is_header (refused r) h e = absurd (let z : ◌≡◌ {A = ℕ} 0 1 = cc in omega arith)
 
-pub no-header_read : (o : Outcome CrimHeader) (r : Refusal) → headers.Refused r ≡ crim_read o → o ≡ refused r
+pub no-header_read : (o : Outcome CrimHeader) (r : Refusal) → Err r ≡ crim_read o → o ≡ refused r
 no-header_read (done c) r e = absurd (let z : ◌≡◌ {A = ℕ} 0 1 = cc in omega arith)
 no-header_read (refused q) r e = cc
 
@@ -129,9 +126,9 @@ module _ (h : CrimHeader) (s : List ℕ) where
     reading-done ps e = rw e
 
 -- what is accepted where each list has room
-abbrev pub by_verdict : {A : Type 0} → A → Verdict → Outcome A
-by_verdict a verdicts.Fine = done a
-by_verdict a (verdicts.Refused r) = refused r
+abbrev pub by_verdict : {A : Type 0} → A → Result (Unit {0}) Refusal → Outcome A
+by_verdict a Ok tt = done a
+by_verdict a (Err r) = refused r
 
 -- the lists' needs, as far as anyone asks, decide: no capacity is over 65,536
 pub room-decides : {A : Type 0} (rs : List Row) (cs : List ℕ) (ls : List (List Entry)) (a : A) → moderate cs ≡ true
@@ -144,7 +141,7 @@ room-decides (r ∷ rs) (c ∷ cs) (l ∷ ls) a m = step (leb (length l) c) refl
   where
     step : (t : Bool) → leb (length l) c ≡ t → with_room rs cs ls a ≡ by_verdict a (short rs cs (map capped (counted ls)))
         → choose t (with_room rs cs ls a) (refused (too_small r.number c))
-        ≡ by_verdict a (choose (leb (capped (length l)) c) (short rs cs (map capped (counted ls))) (verdicts.Refused (too_small r.number c)))
+        ≡ by_verdict a (choose (leb (capped (length l)) c) (short rs cs (map capped (counted ls))) (Err (too_small r.number c)))
     step true f ih = let g = leb-true (length l) c f in let i : capped (length l) ≤ c = omega arith in rw (le-leb _ _ i) ih
     step false f ih =
         let g = leb-false (length l) c f in

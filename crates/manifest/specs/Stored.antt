@@ -1,8 +1,7 @@
 -- What is answered and held where the providers are fine: by the room that the lists have.
-use Rattle.std.specs.Prelude.{ℕ, zero, suc, ◌+◌, ◌*◌, ◌≤◌, ◌≡◌, true, List, [], ◌∷◌, map, length}
+use Rattle.std.specs.Prelude.{ℕ, zero, suc, ◌+◌, ◌*◌, ◌≤◌, ◌≡◌, true, List, [], ◌∷◌, map, length, Ok, Err}
 use Rattle.std.proofs.Common.{ap, sym, ◌∙◌, arith}
 use Rattle.blob.specs.declared.Refusal.{Refusal}
-use Rattle.blob.specs.declared.Verdict.TheVariants as verdicts
 use Rattle.blob.specs.Reading.{done, refused, run, verdict}
 use Rattle.blob.proofs.Laws.{fine-done}
 use Rattle.format.specs.Provider.{Provider}
@@ -23,7 +22,7 @@ few-capped [] f i = omega arith
 few-capped (n ∷ ns) f zero = omega (arith, f 0)
 few-capped (n ∷ ns) f (suc i) = few-capped ns (λ j. f (suc j)) i
 
-module _ (h : CrimHeader) (s : List ℕ) (c needs : List ℕ) (c-rows : length c ≡ AREAS) (g : 16 + 20 * h.count ≤ length s) (v : verdict (run (providers h.count) s) ≡ verdicts.Fine)
+module _ (h : CrimHeader) (s : List ℕ) (c needs : List ℕ) (c-rows : length c ≡ AREAS) (g : 16 + 20 * h.count ≤ length s) (v : verdict (run (providers h.count) s) ≡ Ok tt)
     (e : needs ≡ needs_all none (providers_in h.count s)) (m : moderate c ≡ true) where
   abbrev ps : List Provider
   ps = providers_in h.count s
@@ -37,10 +36,10 @@ module _ (h : CrimHeader) (s : List ℕ) (c needs : List ℕ) (c-rows : length c
   read : block_reading h s c ≡ by_verdict (record { header = h; providers = ps }) (short rows c needs)
   read = reading-done h s c ps (array_whole h s g ∙ fine-done _ v) ∙ decided (record { header = h; providers = ps })
 
-  pub store_refused : (r : Refusal) → verdicts.Refused r ≡ short rows c needs → block_reading h s c ≡ refused r
+  pub store_refused : (r : Refusal) → Err r ≡ short rows c needs → block_reading h s c ≡ refused r
   store_refused r q = read ∙ ap (by_verdict (record { header = h; providers = ps })) (sym q)
 
-  module _ (q : verdicts.Fine ≡ short rows c needs) where
+  module _ (q : Ok tt ≡ short rows c needs) where
     pub store_roomy : roomy c ps
     store_roomy = decided 0 ∙ ap (by_verdict 0) (sym q)
 

@@ -1,10 +1,9 @@
 -- What a filler of a list needs of a provider that is fine, and what it then has stored, list by list.
-use Rattle.std.specs.Prelude.{ℕ, ◌+◌, ◌*◌, ◌≤◌, ◌≡◌, List, [], ◌∷◌, length}
+use Rattle.std.specs.Prelude.{ℕ, ◌+◌, ◌*◌, ◌≤◌, ◌≡◌, List, [], ◌∷◌, length, Ok}
 use Rattle.std.proofs.Math.Path.{refl, ap}
 use Rattle.std.proofs.Common.{ap₂, sym, ◌∙◌, subst, arith}
 use borrow.Author.Tests.{ne_eqb}
 use Rattle.blob.specs.Le.{le}
-use Rattle.blob.specs.declared.Verdict.TheVariants as verdicts
 use Rattle.blob.specs.Reading.{Outcome, done, run, number, many, each, answer, verdict, values}
 use Rattle.blob.specs.Laid.{laid, flat}
 use Rattle.blob.proofs.Laws.{same, fine-value, run-after, many-count, length-flat}
@@ -42,7 +41,7 @@ wevt_finds o s =
     finds-next 4 (o + 4) (λ a ea. finds-next 4 (o + 8) (λ b eb. finds-next 4 (o + 12) (λ c ec. finds-next 4 (o + 16) (λ d ed.
     finds-got (room, rw (ea, eb, ec, ed))))))))))
 
-module _ (at : ℕ) (s : List ℕ) (v : verdict (run (described_at at) s) ≡ verdicts.Fine) where
+module _ (at : ℕ) (s : List ℕ) (v : verdict (run (described_at at) s) ≡ Ok tt) where
   -- the provider, and its parts
   pub provided : (p : Provider) × (run (described_at at) s ≡ done p) × Described at s p
   provided = let p = fine-value _ v in (p.0, p.1, described s at p.0 p.1)
@@ -71,7 +70,7 @@ pub record Given (o : ℕ) (h : Wevt) (s : List ℕ) (p : Provider) : Type 0 whe
   pub unknown2 : run (many (number 4) (step 4) h.unknown2 (o + 20 + 8 * h.descriptors)) s ≡ done p.unknown2
   pub elements : run (elements_from h.descriptors (o + 20)) s ≡ done p.elements
 
-module _ (at : ℕ) (s : List ℕ) (v : verdict (run (described_at at) s) ≡ verdicts.Fine) (h : Wevt) (r : run (wevt_at (le 4 s (at + 16))) s ≡ done h) where
+module _ (at : ℕ) (s : List ℕ) (v : verdict (run (described_at at) s) ≡ Ok tt) (h : Wevt) (r : run (wevt_at (le 4 s (at + 16))) s ≡ done h) where
   p : Provider
   p = (provided at s v).0
 

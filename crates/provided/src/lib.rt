@@ -8,13 +8,12 @@ ghost use Rattle.format.specs.Provider.{wevt_at};
 ghost use Rattle.format.specs.Crim.{described_at};
 ghost use Rattle.provided.specs.Provided.{ProviderRoom, ProviderStored};
 
-use blob::Verdict;
 use format::list::{AREAS, width};
 use format::{Wevt, list};
 
 // The header of the WEVT of a provider that is known to be fine, by the place of its descriptor in the block.
 fn wevt_of(b: &[u8], at: usize) -> Wevt
-    requires { (at + 20 ≤ length b.now) × (verdict (run (described_at at) b.now) ≡ Verdict.Fine) }
+    requires { (at + 20 ≤ length b.now) × (verdict (run (described_at at) b.now) ≡ Ok tt) }
     ensures { run (wevt_at (le 4 b.now (at + 16))) b.now ≡ done result }
 {
     let place = blob::word(b, at + 16) as usize;
@@ -36,7 +35,7 @@ pub fn fill(
     before: &mut [u32; AREAS],
     area: &mut [u32],
 ) -> usize
-    requires at_in_bounds { (at + 20 ≤ length b.now) × (length b.now ≤ 16777216) × (verdict (run (described_at at) b.now) ≡ Verdict.Fine) }
+    requires at_in_bounds { (at + 20 ≤ length b.now) × (length b.now ≤ 16777216) × (verdict (run (described_at at) b.now) ≡ Ok tt) }
     requires provider_room { ProviderRoom list number before.old (run (described_at at) b.now) area.old }
     ensures { ProviderStored list number before.old (run (described_at at) b.now) area.old result before.new area.new }
 {

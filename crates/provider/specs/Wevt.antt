@@ -1,13 +1,12 @@
 -- What a reading of a WEVT's header and of a descriptor finds, way by way.
 use Prim.Native.Nat.{ℕ, zero, suc, ◌+◌, ◌-◌, ◌≤◌, ◌<◌, max}
-use Rattle.std.specs.Prelude.{◌≡◌, List}
+use Rattle.std.specs.Prelude.{◌≡◌, List, Ok}
 use Rattle.std.proofs.Math.Path.{refl, ap}
 use Rattle.std.proofs.Common.{◌∙◌}
 use native.Mathlib.Omega.{arith}
 use Rattle.std.proofs.Math.ListN.{length}
 use borrow.Author.Tests.{eq-eqb, ne_eqb}
 use Rattle.blob.specs.Le.{le}
-use Rattle.blob.specs.declared.Verdict.TheVariants as verdicts
 use Rattle.blob.specs.Reading.{done, refused, run, many, verdict}
 use Rattle.blob.proofs.Laws.{run-number, run_room, run_past, run_holds, run-fails, run-got, many_more, many-none}
 use Rattle.format.specs.Field.{WEVT_provider_offset, WEVT_header, WEVT_element_offset, WEVT_element_signature}
@@ -69,7 +68,7 @@ module _ (s : List ℕ) where
   furthest-none left at most h = let e : left ≡ 0 = omega arith in rw e (omega arith)
 
   -- where its signature lies in the blob, all do
-  pub furthest-fits : (n at : ℕ) → furthest s n at + 4 ≤ length s → verdict (run (many descriptor_at (step 8) n at) s) ≡ verdicts.Fine
+  pub furthest-fits : (n at : ℕ) → furthest s n at + 4 ≤ length s → verdict (run (many descriptor_at (step 8) n at) s) ≡ Ok tt
   unfolding furthest
   furthest-fits zero at h = many-none descriptor_at (step 8) 0 at s (omega arith)
   furthest-fits (suc n) at h =

@@ -10,30 +10,30 @@ ghost use Rattle.format.specs.Steps.Needs.{modest, plus, provider_read};
 ghost use Rattle.provider.specs.Wevt as wevt;
 ghost use Rattle.provider.specs.Parts.{with_own};
 
-use blob::Verdict;
+use blob::Refusal;
+use format::Wevt;
 use format::field::{
     WEVT_DESCRIPTOR_ARRAY, WEVT_ELEMENT_OFFSET, WEVT_ELEMENT_SIGNATURE, WEVT_HEADER,
     WEVT_PROVIDER_OFFSET, WEVT_UNKNOWN2_ARRAY,
 };
 use format::list::{AREAS, row};
 use format::signature::WEVT;
-use format::{Needed, Wevt, WevtRead};
 
 // The header of the WEVT at a place.
-fn wevt_at(b: &[u8], at: usize) -> WevtRead
+fn wevt_at(b: &[u8], at: usize) -> Result<Wevt, Refusal>
     ensures { result ≡ spec.wevt_read (run (spec.wevt_at at) b.now) }
 {
     if b.len() < at {
-        return WevtRead::Refused(bounds::offset_out(b.len(), WEVT_PROVIDER_OFFSET, at));
+        return Err(bounds::offset_out(b.len(), WEVT_PROVIDER_OFFSET, at));
     }
     if b.len() - at < 20 {
-        return WevtRead::Refused(bounds::truncated(b.len(), WEVT_HEADER, at, 20));
+        return Err(bounds::truncated(b.len(), WEVT_HEADER, at, 20));
     }
     let found = blob::word(b, at);
     if found != WEVT {
-        return WevtRead::Refused(bounds::wrong_signature(at, WEVT, found));
+        return Err(bounds::wrong_signature(at, WEVT, found));
     }
-    WevtRead::Wevt(Wevt {
+    Ok(Wevt {
         size: blob::word(b, at + 4),
         message: blob::word(b, at + 8),
         descriptors: blob::word(b, at + 12),
@@ -61,27 +61,23 @@ fn furthest(b: &[u8], start: usize, n: u32) -> u32
 }
 
 // Whether the elements' signatures of the n descriptors from a place on lie in the blob: where the furthest does, all do.
-fn check_descriptors(b: &[u8], start: usize, n: u32) -> Verdict
+fn check_descriptors(b: &[u8], start: usize, n: u32) -> Result<(), Refusal>
     requires { start + 8 * n ≤ length b.now }
     ensures { result ≡ verdict (run (many spec.descriptor_at (step 8) n start) b.now) }
 {
     if furthest(b, start, n) as usize + 4 <= b.len() {
-        return Verdict::Fine;
+        return Ok(());
     }
-    let mut at = start;
-    let mut left = n;
-    while 0 < left {
-        let place = blob::word(b, at) as usize;
+    for i in 0..n as usize {
+        let place = blob::word(b, start + 8 * i) as usize;
         if b.len() < place {
-            return Verdict::Refused(bounds::offset_out(b.len(), WEVT_ELEMENT_OFFSET, place));
+            return Err(bounds::offset_out(b.len(), WEVT_ELEMENT_OFFSET, place));
         }
         if b.len() - place < 4 {
-            return Verdict::Refused(bounds::truncated(b.len(), WEVT_ELEMENT_SIGNATURE, place, 4));
+            return Err(bounds::truncated(b.len(), WEVT_ELEMENT_SIGNATURE, place, 4));
         }
-        at += 8;
-        left -= 1;
     }
-    Verdict::Fine
+    Ok(())
 }
 
 // What is needed with a provider that has such a header, and whose elements need so much.
@@ -97,44 +93,22 @@ fn with_own(needs: [u32; AREAS], elements: [u32; AREAS], w: Wevt) -> [u32; AREAS
 }
 
 // Whether the provider is fine whose descriptor in the block stands at a place, and what is needed with it.
-pub fn check(b: &[u8], at: usize, needs: [u32; AREAS]) -> Needed
+pub fn check(b: &[u8], at: usize, needs: [u32; AREAS]) -> Result<[u32; AREAS], Refusal>
     requires { (at + 20 ≤ length b.now) × (length b.now ≤ 16777216) × modest needs }
     ensures { result ≡ provider_read needs (run (described_at at) b.now) }
 {
     let offset = blob::word(b, at + 16) as usize;
-    let w = match wevt_at(b, offset) {
-        WevtRead::Refused(r) => return counts::refused(r),
-        WevtRead::Wevt(w) => w,
-    };
+    let w = wevt_at(b, offset)?;
     let start = offset + 20;
-    if let Verdict::Refused(r) = bounds::whole(
+    bounds::whole(
         b,
         WEVT_DESCRIPTOR_ARRAY,
         start,
         8 * (w.descriptors as usize),
-    ) {
-        return counts::refused(r);
-    }
-    if let Verdict::Refused(r) = check_descriptors(b, start, w.descriptors) {
-        return counts::refused(r);
-    }
+    )?;
+    check_descriptors(b, start, w.descriptors)?;
     let words = start + 8 * (w.descriptors as usize);
-    if let Verdict::Refused(r) = bounds::whole(
-        b,
-        WEVT_UNKNOWN2_ARRAY,
-        words,
-        4 * (w.unknown2 as usize),
-    ) {
-        return counts::refused(r);
-    }
-    let e = element::check(b, start, w.descriptors);
-    let verdict = e.verdict;
-    if let Verdict::Refused(r) = verdict {
-        return counts::refused(r);
-    }
-    let elements = e.counts;
-    Needed {
-        verdict: Verdict::Fine,
-        counts: with_own(needs, elements, w),
-    }
+    bounds::whole(b, WEVT_UNKNOWN2_ARRAY, words, 4 * (w.unknown2 as usize))?;
+    let elements = element::check(b, start, w.descriptors)?;
+    Ok(with_own(needs, elements, w))
 }

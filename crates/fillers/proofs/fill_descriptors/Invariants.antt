@@ -1,8 +1,8 @@
 -- The invariant: what is left decides. The rest, laid from here, makes the area what it shall be, and the rest is fine.
+use Rattle.std.specs.Prelude.{Ok}
 use Prim.Native.Nat.{◌+◌, ◌*◌, ◌≤◌}
 use mathlib.Core.Path.{◌≡◌}
 use lib.ListN.{length}
-use Rattle.blob.specs.declared.Verdict.TheVariants as verdicts
 use Rattle.blob.specs.Reading.{run, many, verdict}
 use Rattle.blob.proofs.Laws.{rest}
 use Rattle.format.specs.Area.{DESCRIPTORS, width}
@@ -16,7 +16,7 @@ invariant-loop-left l =
     (l.at + 8 * l.left ≤ length l.b)
     × (l.to + width DESCRIPTORS * l.left ≡ width DESCRIPTORS * l.n)
     × (length l.area ≡ length l.initial.area)
-    × (verdict (run (many descriptor_at (step 8) l.left l.at) l.b) ≡ verdicts.Fine)
+    × (verdict (run (many descriptor_at (step 8) l.left l.at) l.b) ≡ Ok tt)
     × (rest descriptor_at (step 8) descriptor_words l.b l.initial.area l.n l.start 0 ≡ rest descriptor_at (step 8) descriptor_words l.b l.area l.left l.at l.to)
 
 abbrev pub decreases-loop-left : goal.decreases-loop-left

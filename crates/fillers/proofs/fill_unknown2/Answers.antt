@@ -1,10 +1,10 @@
 -- The invariant: what is left decides. A word is never refused, so the rest is fine.
+use Rattle.std.specs.Prelude.{Ok}
 use Prim.Native.Nat.{ℕ}
 use mathlib.Core.Path.{◌≡◌, refl, ap, sym, ◌∙◌}
 use mathlib.Core.List.{List, [], ◌∷◌}
 use native.Mathlib.Omega.{arith}
 use borrow.Author.Rules.{rules}
-use Rattle.blob.specs.declared.Verdict.TheVariants as verdicts
 use Rattle.blob.specs.Reading.{run, number, many, verdict}
 use Rattle.blob.proofs.Laws.{finds-number, many-fine, rest_more, rest-none}
 use Rattle.blob.specs.Laid.{laid}
@@ -16,7 +16,7 @@ pub loop-left-init : goal.loop-left-init
 loop-left-init c = (search rules, search rules, refl, refl)
 
 -- the words that are left are fine
-fine : (s : List ℕ) (n at : ℕ) → verdict (run (many (number 4) (step 4) n at) s) ≡ verdicts.Fine
+fine : (s : List ℕ) (n at : ℕ) → verdict (run (many (number 4) (step 4) n at) s) ≡ Ok tt
 fine s = many-fine (number 4) (step 4) s (λ at. (_, finds-number 4 at s))
 
 pub loop-left-preserved : goal.loop-left-preserved
