@@ -1,11 +1,11 @@
 -- A reading, way by way, as `read` goes.
 use Rattle.std.specs.Prelude.{ℕ, ◌+◌, ◌*◌, ◌≤◌, ◌<◌, ◌≡◌, Bool, true, false, List, [], ◌∷◌, map, length, take, leb, Ok, Err, Result}
 use Rattle.std.proofs.Math.Path.{refl}
-use Rattle.std.proofs.Common.{◌∙◌, arith, le-leb, leb-true, leb-false}
+use Rattle.std.proofs.Common.{ap, sym, ◌∙◌, arith, le-leb, leb-true, leb-false}
 use Rattle.std.proofs.lemmas.Bool.{lt-leb}
 use Rattle.blob.specs.declared.Refusal.{Refusal}
-use Rattle.blob.specs.Reading.{Outcome, done, refused, choose, run, then}
-use Rattle.blob.proofs.Laws.{both, choose-done, run_room, run_past}
+use Rattle.blob.specs.Reading.{Outcome, done, refused, choose, run, then, as_result}
+use Rattle.blob.proofs.Laws.{result_found, result_refused, both, choose-done, run_room, run_past}
 use Rattle.blob.proofs.Finds.{Finds, finds-got, finds-room, finds-demand, finds-next}
 use Rattle.format.specs.Field.{CRIM_provider_descriptor_array}
 use Rattle.format.specs.Refuse.{truncated}
@@ -14,7 +14,8 @@ use Rattle.format.specs.Crim.{Crim, header, crim_read, providers_of, crim}
 use Rattle.format.specs.Area.{Row, rows}
 use Rattle.format.specs.Lists.{Entry, lists}
 use Rattle.areas.specs.Areas.{providers}
-use Rattle.format.specs.Answer.{own, too_small, moderate, lent_enough, with_room, block, reading, counted, capped}
+use Rattle.format.specs.Answer.{answer, needing, own, too_small, moderate, lent_enough, with_room, block, reading, counted, capped}
+use Rattle.format.specs.declared.Answer.{Answer}
 use Rattle.format.specs.declared.CrimHeader.{CrimHeader}
 use Rattle.counts.specs.Short.{short}
 
@@ -24,6 +25,13 @@ block_of h s = then (run (providers_of h) s) (λ ps. done (record { header = h; 
 
 unfoldable pub block_reading : CrimHeader → List ℕ → List ℕ → Outcome Crim
 block_reading h s capacities = then (run (providers_of h) s) (λ ps. with_room rows capacities (lists ps) (record { header = h; providers = ps }))
+
+-- what the code answers for a reading, and for the needs, where a refusal is an error
+abbrev pub read_as : Outcome Crim → Result Answer Refusal
+read_as o = as_result (λ c. answer (done c)) o
+
+abbrev pub needed_as : Outcome Crim → Result Answer Refusal
+needed_as o = as_result (λ c. needing (done c)) o
 
 module _ (bytes : List ℕ) where
   pub block-long : 16777216 < length bytes → block bytes ≡ refused (own 7)
@@ -70,12 +78,10 @@ module _ (bytes words : List ℕ) (capacities : List ℕ) where
 
 -- what the answer for the header tells of its reading
 pub is_header : (o : Outcome CrimHeader) (h : CrimHeader) → Ok h ≡ crim_read o → o ≡ done h
-is_header (done c) h e = cc
-is_header (refused r) h e = absurd (let z : ◌≡◌ {A = ℕ} 0 1 = cc in omega arith)
+is_header o h e = let f = result_found (λ h. h) o h e in f.1 ∙ ap done (sym f.2)
 
 pub no-header_read : (o : Outcome CrimHeader) (r : Refusal) → Err r ≡ crim_read o → o ≡ refused r
-no-header_read (done c) r e = absurd (let z : ◌≡◌ {A = ℕ} 0 1 = cc in omega arith)
-no-header_read (refused q) r e = cc
+no-header_read o r e = result_refused (λ h. h) o r e
 
 -- an accepted header's size
 pub record Sized (s : List ℕ) (h : CrimHeader) : Type 0 where
@@ -127,7 +133,7 @@ module _ (h : CrimHeader) (s : List ℕ) where
 
 -- what is accepted where each list has room
 abbrev pub by_verdict : {A : Type 0} → A → Result (Unit {0}) Refusal → Outcome A
-by_verdict a Ok tt = done a
+by_verdict a (Ok u) = done a
 by_verdict a (Err r) = refused r
 
 -- the lists' needs, as far as anyone asks, decide: no capacity is over 65,536

@@ -8,34 +8,23 @@ ghost use Rattle.format.specs.Area.{none};
 ghost use Rattle.format.specs.Crim.{providers_of};
 ghost use Rattle.format.specs.Steps.Needs as need;
 ghost use Rattle.areas.specs.Areas.{providers, providers_in};
-ghost use Rattle.manifest.specs.Read.{block_of, block_reading};
+ghost use Rattle.manifest.specs.Read.{block_reading, read_as, needed_as};
 
-use areas::Position;
-use blob::{Refusal, Verdict};
+use blob::Refusal;
 use format::field::CRIM_PROVIDER_DESCRIPTOR_ARRAY;
 use format::list::AREAS;
-use format::{Answer, CrimHeader, CrimRead, LONGEST, Needed};
+use format::{Answer, CrimHeader, LONGEST};
 
 // Whether n providers are fine, each finished before the next is read, and what each list needs for them.
-fn check(b: &[u8], n: u32) -> Needed
+fn check(b: &[u8], n: u32) -> Result<[u32; AREAS], Refusal>
     requires { (16 + 20 * n ≤ length b.now) × (length b.now ≤ 16777216) }
     ensures { result ≡ need.providers_read none (run (providers n) b.now) }
 {
-    let mut p = Position::first(n);
     let mut needs = [0; AREAS];
-    while 0 < p.left {
-        let found = provider::check(b, p.at, needs);
-        let verdict = found.verdict;
-        if let Verdict::Refused(r) = verdict {
-            return counts::refused(r);
-        }
-        needs = found.counts;
-        p = p.next();
+    for i in 0..n as usize {
+        needs = provider::check(b, 16 + 20 * i, needs)?;
     }
-    Needed {
-        verdict: Verdict::Fine,
-        counts: needs,
-    }
+    Ok(needs)
 }
 
 // The answer of an accepted block that needs so much.
@@ -73,99 +62,85 @@ fn store(
     needs: [u32; AREAS],
     words: &mut [u32],
     capacities: [u32; AREAS],
-) -> Answer
+) -> Result<Answer, Refusal>
     requires count_in_bounds { (16 + 20 * h.count ≤ length b.now) × (length b.now ≤ 16777216) }
-    requires b_value { verdict (run (providers h.count) b.now) ≡ Verdict.Fine }
+    requires b_value { verdict (run (providers h.count) b.now) ≡ Ok tt }
     requires needs_value { (needs ≡ need.needs_all none (providers_in h.count b.now)) × (spec.lent_enough capacities words.old ≡ true) }
-    ensures value { result ≡ spec.answer (block_reading h b.now capacities) }
+    ensures value { result ≡ read_as (block_reading h b.now capacities) }
     ensures words_after { words.new ≡ spec.held words.old capacities (block_reading h b.now capacities) }
 {
-    match counts::room(capacities, needs) {
-        Verdict::Refused(r) => refuse(r),
-        Verdict::Fine => {
-            areas::fill_areas(b, h.count, needs, capacities, words);
-            accept(h, needs)
-        }
-    }
+    counts::room(capacities, needs)?;
+    areas::fill_areas(b, h.count, needs, capacities, words);
+    Ok(accept(h, needs))
 }
 
 // Whether the block behind its header is fine, and what each list needs for it.
-fn check_block(b: &[u8], h: CrimHeader) -> Needed
+fn check_block(b: &[u8], h: CrimHeader) -> Result<[u32; AREAS], Refusal>
     requires { (16 ≤ length b.now) × (length b.now ≤ 16777216) }
     ensures { result ≡ need.providers_read none (run (providers_of h) b.now) }
 {
     let bytes = 20 * (h.count as usize);
     if b.len() - 16 < bytes {
-        return counts::refused(bounds::truncated(
-            b.len(),
-            CRIM_PROVIDER_DESCRIPTOR_ARRAY,
-            16,
-            bytes,
-        ));
+        return Err(bounds::truncated(b.len(), CRIM_PROVIDER_DESCRIPTOR_ARRAY, 16, bytes));
     }
     check(b, h.count)
 }
 
 // Reads the block behind its header.
-fn read_block(b: &[u8], h: CrimHeader, words: &mut [u32], capacities: [u32; AREAS]) -> Answer
+fn read_block(
+    b: &[u8],
+    h: CrimHeader,
+    words: &mut [u32],
+    capacities: [u32; AREAS],
+) -> Result<Answer, Refusal>
     requires { (16 ≤ length b.now) × (length b.now ≤ 16777216) × (spec.lent_enough capacities words.old ≡ true) }
-    ensures value { result ≡ spec.answer (block_reading h b.now capacities) }
+    ensures value { result ≡ read_as (block_reading h b.now capacities) }
     ensures words_after { words.new ≡ spec.held words.old capacities (block_reading h b.now capacities) }
 {
-    let found = check_block(b, h);
-    let verdict = found.verdict;
-    if let Verdict::Refused(r) = verdict {
-        return refuse(r);
-    }
-    let needs = found.counts;
+    let needs = check_block(b, h)?;
     store(b, h, needs, words, capacities)
+}
+
+// Reads the block, and answers what is accepted.
+fn accepted(bytes: &[u8], words: &mut [u32], capacities: [u32; AREAS]) -> Result<Answer, Refusal>
+    ensures value { result ≡ read_as (spec.reading bytes.now words.old capacities) }
+    ensures words_after { words.new ≡ spec.held words.old capacities (spec.reading bytes.now words.old capacities) }
+{
+    if LONGEST < bytes.len() {
+        return Err(bounds::own(7));
+    }
+    if !counts::lent_enough(capacities, words.len()) {
+        return Err(bounds::own(8));
+    }
+    let h = crim::header(bytes)?;
+    let size = h.size as usize;
+    read_block(&bytes[..size], h, words, capacities)
 }
 
 // Reads the CRIM block in lent bytes into lent words, an area for each list of as many entries as its capacity says.
 pub fn read(bytes: &[u8], words: &mut [u32], capacities: [u32; AREAS]) -> Answer
     ensures { spec.Allowed bytes.now words.old capacities result words.new }
 {
-    if LONGEST < bytes.len() {
-        return refuse(bounds::own(7));
-    }
-    if !counts::lent_enough(capacities, words.len()) {
-        return refuse(bounds::own(8));
-    }
-    match crim::header(bytes) {
-        CrimRead::Refused(r) => refuse(r),
-        CrimRead::Header(h) => {
-            let size = h.size as usize;
-            read_block(&bytes[..size], h, words, capacities)
-        }
-    }
+    accepted(bytes, words, capacities).unwrap_or_else(refuse)
 }
 
-// What the block behind its header needs.
-fn needs_block(b: &[u8], h: CrimHeader) -> Answer
-    requires { (16 ≤ length b.now) × (length b.now ≤ 16777216) }
-    ensures { result ≡ spec.needing (block_of h b.now) }
+// What the block needs, where it is accepted.
+fn needed(bytes: &[u8]) -> Result<Answer, Refusal>
+    ensures { result ≡ needed_as (spec.block bytes.now) }
 {
-    let found = check_block(b, h);
-    let verdict = found.verdict;
-    if let Verdict::Refused(r) = verdict {
-        return refuse(r);
+    if LONGEST < bytes.len() {
+        return Err(bounds::own(7));
     }
-    let needs = found.counts;
-    accept(h, needs)
+    let h = crim::header(bytes)?;
+    let size = h.size as usize;
+    let needs = check_block(&bytes[..size], h)?;
+    Ok(accept(h, needs))
 }
 
 // What each list needs for the CRIM block in lent bytes, as its counts; a number stops rising at 65,537.
+#[tactic(auto, using(format::proofs::Theorems::Determined::needs_refused))]
 pub fn needs(bytes: &[u8]) -> Answer
     ensures { spec.NeedsAllowed bytes.now result }
 {
-    if LONGEST < bytes.len() {
-        return refuse(bounds::own(7));
-    }
-    match crim::header(bytes) {
-        CrimRead::Refused(r) => refuse(r),
-        CrimRead::Header(h) => {
-            let size = h.size as usize;
-            needs_block(&bytes[..size], h)
-        }
-    }
+    needed(bytes).unwrap_or_else(refuse)
 }

@@ -1,38 +1,26 @@
--- The invariant: what is left decides. The answer for the providers that are left, with the needs so far, is that for all.
-use mathlib.Core.Path.{refl, ap, sym, ◌∙◌, subst}
+-- What is left decides: the answer for the providers that are left, with the needs so far, is that for all.
+use Prim.Native.Nat.{◌+◌, ◌-◌, ◌*◌}
+use mathlib.Core.Path.{◌≡◌, ap, sym, ◌∙◌, subst}
 use native.Mathlib.Omega.{arith}
+use Rattle.blob.proofs.Laws.{handed_on, result_found, result_refused}
 use Rattle.format.specs.Steps.Needs.{modest, needs_all, providers_read}
 use Rattle.format.proofs.Theorems.Needed.{plus-modest}
 use Rattle.areas.specs.Walked.{none_left}
-use Rattle.manifest.specs.Walked.{is_needs, is_refused, needs_more, needs_stop}
-use borrow.Author.Rules.{rules}
+use Rattle.manifest.specs.Walked.{needs_more, needs_stop}
 use Rattle.manifest.proofs.check.Goals as goal
 
-pub loop-p-init : goal.loop-p-init
-loop-p-init c = rw (c.first-p.ensures.0, c.first-p.ensures.1) (search rules, search rules, refl)
+pub returns-in_err-needs : goal.returns-in_err-needs
+returns-in_err-needs c =
+    handed_on c.from_residual.ensures.1
+    (sym (c.loop-i.invariant.1 ∙ needs_stop _ _ _ (omega arith) _ (result_refused _ _ _ c.in_err-needs.ensures) _))
 
-pub check-found-requires : goal.check-found-requires
-check-found-requires c = (omega (arith, c.loop-p-test.true, c.loop-p.invariant.0), c.requires.1, c.loop-p.invariant.1)
-
-pub returns-in-Refused : goal.returns-in-Refused
-returns-in-Refused c =
-    c.refused.ensures ∙ sym (c.loop-p.invariant.2 ∙ needs_stop _ _ _ c.loop-p-test.true _ (is_refused _ _ _ _ c.check-found.ensures c.in-Refused.is) _)
-
-pub next-p-requires : goal.next-p-requires
-next-p-requires c =
-    (omega (arith, c.loop-p.invariant.0, c.requires), omega (arith, c.loop-p-test.true))
-
-pub loop-p-smaller : goal.loop-p-smaller
-loop-p-smaller c = omega (arith, c.next-p.ensures.1, c.loop-p-test.true)
-
-pub loop-p-preserved : goal.loop-p-preserved
-loop-p-preserved c =
-    let x = is_needs _ _ _ c.check-found.ensures c.in_default.is in (
-      omega (arith, c.next-p.ensures.0, c.next-p.ensures.1, c.loop-p.invariant.0, c.loop-p-test.true),
-      subst modest (sym x.2) (plus-modest _ _),
-      rw (c.next-p.ensures.0, c.next-p.ensures.1) (c.loop-p.invariant.2 ∙ needs_more _ _ _ c.loop-p-test.true x.0 x.1 _ _ x.2),
-    )
+pub loop-i-preserved : goal.loop-i-preserved
+loop-i-preserved c =
+    let x = result_found _ _ _ c.in_ok-needs.ensures in
+    let left : c.args.n - c.loop-i.i - 1 ≡ c.args.n - (c.loop-i.i + 1) = omega arith in
+    let at : 16 + 20 * c.loop-i.i + 20 ≡ 16 + 20 * (c.loop-i.i + 1) = omega arith in
+    (subst modest (sym x.2) (plus-modest _ _), rw (← left, ← at) (c.loop-i.invariant.1 ∙ needs_more _ _ _ (omega arith) x.0 x.1 _ _ x.2))
 
 pub returns : goal.returns
 unfolding needs_all
-returns c = sym (c.loop-p.invariant.2 ∙ ap (providers_read _) (none_left _ _ _ c.loop-p-test.false))
+returns c = sym (c.loop-i.invariant.1 ∙ ap (providers_read _) (none_left _ _ _ (omega arith)))

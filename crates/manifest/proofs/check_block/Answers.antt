@@ -1,10 +1,9 @@
 -- The array, then the providers.
-use Rattle.std.specs.Prelude.{Err}
 use Prim.Native.Nat.{◌+◌, ◌*◌, ◌≤◌}
 use mathlib.Core.Path.{ap, sym, ◌∙◌}
 use native.Mathlib.Omega.{arith}
 use lib.ListN.{length}
-use Rattle.blob.specs.declared.Refusal.{Refusal}
+use Rattle.std.specs.Prelude.{Err}
 use Rattle.format.specs.Area.{none}
 use Rattle.format.specs.Steps.Needs.{providers_read}
 use Rattle.manifest.specs.Read.{array-cut, array_whole}
@@ -13,7 +12,7 @@ use Rattle.manifest.proofs.check_block.Goals as goal
 pub returns-then-b-bytes : goal.returns-then-b-bytes
 returns-then-b-bytes c =
     let x = array-cut c.args.h c.args.b.now (omega (arith, c.if-b-bytes.true, c.requires.0)) in
-    c.refused.ensures ∙ ap (λ (r : Refusal). record { verdict = Err r; counts = none }) c.truncated.ensures ∙ sym (ap (providers_read none) x)
+    ap Err c.truncated.ensures ∙ sym (ap (providers_read none) x)
 
 pub returns : goal.returns
 returns c =
