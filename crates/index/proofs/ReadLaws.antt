@@ -1,7 +1,7 @@
 -- What holds of rows that are passed and rows that are given: what is left decides.
 use Prim.{tt}
 use Prim.Native.Nat.{ℕ, zero, suc, ◌+◌, ◌-◌, ◌*◌, ◌/◌, ◌%◌, ◌≤◌, ◌<◌}
-use Rattle.std.specs.Prelude.{◌≡◌, Bool, true, false, ◌&&◌, ◌||◌, set, leb, eqb, Result, Ok, Err}
+use Rattle.std.specs.Prelude.{◌≡◌, Bool, true, false, set, eqb, Result, Ok, Err}
 use Rattle.std.proofs.Math.Path.{refl, ap, ap₂, sym, subst}
 use Rattle.std.proofs.Common.{◌∙◌, length-append, length-set}
 use mathlib.Core.List.{List, [], ◌∷◌, ◌++◌}
@@ -10,12 +10,12 @@ use Rattle.std.proofs.Math.Numerals.{add-one}
 use native.Mathlib.Omega.{arith}
 use Rattle.std.proofs.Math.ListN.{length, get_or, drop, drop_of_length-le}
 use Rattle.std.proofs.Math.Seq.{drop-cons}
-use borrow.Author.Tests.{eq-eqb, ne_eqb, eqb-true, leb-true, le-leb, lt-leb}
+use borrow.Author.Tests.{eq-eqb, ne_eqb, le-leb, lt-leb}
 use Rattle.std.specs.Result.{IsErrAnd}
 use Rattle.std.proofs.lemmas.Result.{err_from_is_err_and}
-use Rattle.blob.specs.Reading.{Outcome, done, refused, choose, then, answer, verdict}
+use Rattle.blob.specs.Reading.{Outcome, done, refused, choose, then, verdict}
 use Rattle.blob.specs.declared.Verdict.TheVariants as verdicts
-use Rattle.blob.proofs.Laws.{both, same, then-done}
+use Rattle.blob.proofs.Laws.{same, then-done}
 use Rattle.blob.specs.Laid.{laid, flat, length-laid, laid_more, laid-behind}
 use Rattle.blob.specs.declared.Refusal.{Refusal}
 use Rattle.format.proofs.Theorems.Known.{All}

@@ -1,6 +1,6 @@
 -- What the code speaks of: rows that are passed and rows that are given, what is left decides.
 use Prim.Native.Nat.{ℕ, ◌+◌, ◌≤◌}
-use Rattle.std.specs.Prelude.{◌≡◌, Bool, true, false, map, Result, Ok, Err, eqb}
+use Rattle.std.specs.Prelude.{◌≡◌, false, map, Result, Ok, Err, eqb}
 use mathlib.Core.List.{List, [], ◌∷◌}
 use Rattle.std.proofs.Math.ListN.{length}
 use Rattle.blob.specs.Reading.{Outcome, done, refused, then, answer}

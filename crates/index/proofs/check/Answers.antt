@@ -1,5 +1,5 @@
 -- By the parts, in their order.
-use Rattle.std.proofs.Common.{ap, sym, ◌∙◌, refl}
+use Rattle.std.proofs.Common.{ap, sym, ◌∙◌}
 use Rattle.blob.specs.Reading.{refused}
 use Rattle.index.specs.Index.{ONE, ENTRY}
 use Rattle.index.specs.Read.{counted_at}

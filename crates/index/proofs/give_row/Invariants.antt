@@ -1,5 +1,5 @@
 -- What is left to give decides.
-use Rattle.std.proofs.Common.{◌≡◌, ◌+◌, length, drop}
+use Rattle.std.proofs.Common.{◌+◌, length, drop}
 use Rattle.blob.specs.Laid.{laid}
 use Rattle.index.specs.Index.{row_at, row_words}
 use Rattle.index.specs.Read.{mosts, row_of, RowLeft}

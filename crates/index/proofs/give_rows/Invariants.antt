@@ -1,5 +1,5 @@
 -- What is left to give decides.
-use Rattle.std.proofs.Common.{◌≡◌, ◌+◌, ◌-◌, length}
+use Rattle.std.proofs.Common.{◌+◌, ◌-◌, length}
 use Rattle.blob.specs.Laid.{laid, flat}
 use Rattle.index.specs.Index.{rows_at, row_words}
 use Rattle.index.specs.Read.{mosts, rows_of, RowsLeft}

@@ -1,5 +1,5 @@
 -- What is left decides: the bytes from here on, with what the width leaves for them.
-use Rattle.std.proofs.Common.{◌≡◌, ◌+◌, ◌-◌, refl, sym, ◌∙◌, arith}
+use Rattle.std.proofs.Common.{◌≡◌, ◌+◌, ◌-◌, sym, ◌∙◌, arith}
 use Rattle.number.specs.Number.{LONGEST}
 use Rattle.number.proofs.Scan.{scans, most-ones, scan-over, scan-out, scan-last, scan-more}
 use Rattle.number.proofs.pass.Goals as goal
