@@ -16,6 +16,8 @@ use number::Width;
 // The index's number among the lists.
 const INDEX: u32 = 15;
 
+const EDITION: u32 = 1;
+
 // The widths of a number by itself, and of an entry's numbers.
 const ONE: [Width; 1] = [Width::Word];
 
@@ -141,7 +143,7 @@ fn check(bytes: &[u8]) -> Result<Shape, Refusal>
     ensures { spec.Told bytes.now result }
 {
     let edition = word_at(bytes, 0)?;
-    if edition.value != 1 {
+    if edition.value != EDITION {
         return Err(fault(17, 0));
     }
     let counts = pass_counted(bytes, edition.behind, &ONE)?;

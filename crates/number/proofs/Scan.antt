@@ -11,14 +11,14 @@ use Rattle.std.proofs.Math.ListN.{get_or, drop}
 use Rattle.std.proofs.Math.Dec.{leb, ltb, eqb-suc-suc, eqb-zero-suc}
 use borrow.Author.Tests.{le-leb, lt-leb, leb-true, leb-false, ltb-true, lt-ltb, le-ltb, eqb-true, eqb-false, ne_eqb, eq-eqb, not-true}
 use Rattle.blob.specs.Reading.{Outcome, done, refused, choose}
-use Rattle.blob.proofs.Laws.{both, same, choose-done}
+use Rattle.blob.proofs.Laws.{both, same, choose-done, fine-value}
 use Rattle.number.specs.Number.{LONGEST, LONG, upto, ended, value, last_or, padded, fault, number_at}
 use Rattle.number.specs.declared.Number.{Number}
 use Rattle.number.specs.declared.Width.{Width}
 use Rattle.number.specs.declared.Width.TheVariants.{Byte, Half, Word, Long}
 use Rattle.number.specs.declared.Fault.{Fault}
 use Rattle.number.specs.declared.Fault.TheVariants.{Cut, Wrong}
-use Rattle.number.specs.Scan.{most, code, coded, passed, ones, last, scan, Rest, number_of, Read}
+use Rattle.number.specs.Scan.{most, code, coded, passed, ones, last, scan, Rest, Stands, number_of, Read}
 
 pub untrue : {A : Type 0} → false ≡ true → A
 untrue e = absurd (let z : ◌≡◌ {A = ℕ} 0 1 = cc in omega arith)
@@ -276,6 +276,37 @@ read_fits m bytes at n e = let r = was_read m bytes at n e in rw r.shown r.fits
 -- a number of some width is one of any wider
 pub wider : (m k : ℕ) (bytes : List ℕ) (at : ℕ) (n : Number) → m ≤ k → number_at m bytes at ≡ done n → number_at k bytes at ≡ done n
 wider m k bytes at n h e = let r = was_read m bytes at n e in is_read k bytes at n record { ends = r.ends; slim = r.slim; fits = let f = r.fits in omega (arith, f); shown = r.shown }
+
+-- A number that stands at a place, where the bytes before one of its own were read: these said so much, and those from it on say what is
+-- missing, times a scale.
+pub record Reading (bytes : List ℕ) (at i v scale : ℕ) : Type 0 where
+  pub number : Number
+  pub found : number_at LONG bytes at ≡ done number
+  pub rest : Rest (drop i bytes) i v scale number.value number.behind
+  pub scaled : 1 ≤ scale
+
+pub reading_all : (bytes : List ℕ) (at : ℕ) → Stands bytes at → Reading bytes at at 0 1
+reading_all bytes at s = let n = fine-value _ s in record { number = n.0; found = n.1; rest = rest_all _ _ _ n.1; scaled = omega arith }
+
+-- a byte is left; the last one; one with others behind it
+module _ {bytes : List ℕ} {at i v scale : ℕ} (h : Reading bytes at i v scale) where
+  pub reading_some : i < length bytes
+  reading_some = byte_left bytes i v scale _ _ h.rest
+
+  pub reading_ends : get_or bytes i 0 < 128
+      → (v + get_or bytes i 0 * scale ≤ LONG) × (number_at LONG bytes at ≡ done (record { value = v + get_or bytes i 0 * scale; behind = i + 1 }))
+  reading_ends b =
+      let e = byte-ends bytes i v scale _ _ h.rest b in
+      let f = read_fits LONG bytes at h.number h.found in
+      (omega (arith, e.0, f), h.found ∙ ap₂ (λ v b. done record { value = v; behind = b }) (sym e.0) (sym e.1))
+
+  pub reading_goes : 128 ≤ get_or bytes i 0
+      → (v + get_or bytes i 0 % 128 * scale ≤ LONG) × (scale * 128 ≤ LONG) × Reading bytes at (i + 1) (v + get_or bytes i 0 % 128 * scale) (scale * 128)
+  reading_goes b =
+      let g = byte-goes bytes i v scale _ _ h.rest b h.scaled in
+      let f = read_fits LONG bytes at h.number h.found in
+      let s = h.scaled in
+      (omega (arith, g.1, f), omega (arith, g.2, f), record { number = h.number; found = h.found; rest = g.0; scaled = omega (arith, s) })
 
 -- what passing a number tells of it
 pub passed_to : (m : ℕ) (bytes : List ℕ) (at next : ℕ) → Ok next ≡ passed (number_at m bytes at) → (n : Number) × (number_at m bytes at ≡ done n) × (n.behind ≡ next)

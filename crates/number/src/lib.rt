@@ -63,13 +63,7 @@ pub struct Number {
 fn last(byte: u8, limit: u64, first: bool) -> bool
     ensures { result ≡ spec.last byte limit first }
 {
-    if limit < (byte as u64) {
-        return false;
-    }
-    if first {
-        return true;
-    }
-    byte != 0
+    u64::from(byte) <= limit && (first || byte != 0)
 }
 
 // The place behind the number at a place, if it is one of a width. No value is worked out: the groups before the last can't take it past
@@ -103,7 +97,7 @@ pub fn read(bytes: &[u8], at: usize) -> Number
     let mut value: u64 = 0;
     let mut scale: u64 = 1;
     let mut i = at;
-    // No count: the last byte says that it is the last.
+    // No count: the last byte says that it is one.
     loop {
         let byte = bytes[i];
         if byte < 128 {
@@ -124,6 +118,7 @@ pub fn size(number: u64) -> usize
 {
     let mut rest = number;
     let mut n: usize = 1;
+    // No count: it steps by what is left of the number.
     while 128 <= rest {
         rest = rest / 128;
         n += 1;
@@ -139,6 +134,7 @@ pub fn put(bytes: &mut [u8], at: usize, number: u64) -> usize
 {
     let mut rest = number;
     let mut i = at;
+    // No count, as in `size`.
     while 128 <= rest {
         bytes[i] = 128 + (rest % 128) as u8;
         rest = rest / 128;

@@ -9,16 +9,16 @@ use Rattle.index.proofs.check.Goals as goal
 pub returns-in_err-edition : goal.returns-in_err-edition
 returns-in_err-edition c = rw (handed_on _ c.from_residual.ensures.1) (no-edition _ _ (was_refused _ _ _ c.in_err-edition.ensures))
 
-pub returns-then-edition-ne1 : goal.returns-then-edition-ne1
-returns-then-edition-ne1 c =
+pub returns-then-edition-ne-EDITION : goal.returns-then-edition-ne-EDITION
+returns-then-edition-ne-EDITION c =
     let n = was_word _ _ c.in_ok-edition.ensures in
-    other_edition _ n.0 n.1 (λ e. c.if-edition-ne1.true (sym n.2 ∙ e)) ∙ ap refused (sym c.fault.ensures)
+    other_edition _ n.0 n.1 (λ e. c.if-edition-ne-EDITION.true (sym n.2 ∙ e)) ∙ ap refused (sym c.fault.ensures)
 
 pub returns-in_err-counts : goal.returns-in_err-counts
 returns-in_err-counts c =
     let n = was_word _ _ c.in_ok-edition.ensures in
     let q = was_refused _ _ _ c.in_err-counts.ensures in
-    rw (handed_on _ c.from_residual-in_err-counts.ensures.1) (no-counts _ n.0 n.1 (n.2 ∙ c.if-edition-ne1.false) _ (ap (counted_at ONE _) n.3 ∙ q))
+    rw (handed_on _ c.from_residual-in_err-counts.ensures.1) (no-counts _ n.0 n.1 (n.2 ∙ c.if-edition-ne-EDITION.false) _ (ap (counted_at ONE _) n.3 ∙ q))
 
 pub returns-in_err-entries : goal.returns-in_err-entries
 returns-in_err-entries c =
@@ -26,4 +26,4 @@ returns-in_err-entries c =
     let k = was_counted _ _ c.in_ok-counts.ensures in
     let q = was_refused _ _ _ c.in_err-entries.ensures in
     rw (handed_on _ c.from_residual-in_err-entries.ensures.1)
-    (no-entries _ n.0 n.1 (n.2 ∙ c.if-edition-ne1.false) k.0 (ap (counted_at ONE _) n.3 ∙ k.1) _ (ap (counted_at ENTRY _) k.3 ∙ q))
+    (no-entries _ n.0 n.1 (n.2 ∙ c.if-edition-ne-EDITION.false) k.0 (ap (counted_at ONE _) n.3 ∙ k.1) _ (ap (counted_at ENTRY _) k.3 ∙ q))

@@ -8,5 +8,5 @@ abbrev pub invariant-loop-k : goal.invariant-loop-k
 invariant-loop-k l =
     record {
       inside : 0 < l.k → l.at + l.k ≤ length l.bytes;
-      decides : passed (number_at (most l.fn.width) l.bytes l.at) ≡ scan l.at (LONGEST - l.k) l.limit (l.at + l.k) (drop (l.at + l.k) l.bytes)
+      decides : passed (number_at (most l.fn.width) l.bytes l.at) ≡ scan l.at (LONGEST - l.k) l.limit (l.at + l.k) (drop (l.at + l.k) l.bytes);
     }
