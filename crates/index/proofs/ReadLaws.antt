@@ -147,18 +147,10 @@ pub giving_more : (g gs : List ℕ) (stop next : ℕ) (lent now : List ℕ) (beh
 giving_more g gs stop next lent now behind end after h e =
     record { stops = h.stops; ends = let a = h.ends in let b = length-append g gs in omega (arith, a, b); fills = rw e (sym (laid_more lent next g gs) ∙ h.fills) }
 
-pub giving_none : (stop next : ℕ) (lent : List ℕ) (behind end : ℕ) (after : List ℕ) → Giving [] stop next lent behind end after → (stop ≡ behind) × (next ≡ end) × (lent ≡ after)
+pub giving_none : (stop next : ℕ) (lent : List ℕ) (behind end : ℕ) (after : List ℕ) → Giving [] stop next lent behind end after
+    → ◌≡◌ {A = Place} (record { at = stop; to = next }) (record { at = behind; to = end }) × (lent ≡ after)
 unfolding laid
-giving_none stop next lent behind end after h = (h.stops, (let a = h.ends in omega (arith, a)), h.fills)
-
--- a number's words
-module _ (w n : ℕ) where
-  pub words-some : 1 ≤ length (number_words w n)
-  words-some = go (eqb w LONG)
-    where
-      go : (t : Bool) → 1 ≤ length (choose t (n % 4294967296 ∷ n / 4294967296 ∷ []) (n ∷ []))
-      go true = omega arith
-      go false = omega arith
+giving_none stop next lent behind end after h = let a = h.ends in (ap₂ (λ p t. record { at = p; to = t }) h.stops (omega (arith, a)), h.fills)
 
 -- the one word of a number that has none of 64 bits
 pub words_one : (w : Width) (n : ℕ) → (w ≡ widths.Long → ⊥) → narrow (most w) n → number_words (most w) n ≡ n % 4294967296 ∷ []
@@ -167,31 +159,27 @@ words_one widths.Half n h f = ap (λ x. x ∷ []) (let l = f refl in omega (arit
 words_one widths.Word n h f = ap (λ x. x ∷ []) (let l = f refl in omega (arith, l))
 words_one widths.Long n h f = absurd (h refl)
 
-pub row-left_all : (ws bytes : List ℕ) (at to : ℕ) (lent : List ℕ) (room : ℕ) → RowStands ws bytes at to room → (let r = row_of (row_at ws bytes at) in
-    RowLeft ws bytes at to lent r.behind (to + length (row_words ws r.numbers)) (laid lent to (row_words ws r.numbers)))
-row-left_all ws bytes at to lent room s = rw s.1 (record { row = s.0; found = s.1; giving = record { stops = refl; ends = refl; fills = refl } })
-
 pub row_of_room : (ws bytes : List ℕ) (at to room : ℕ) → RowStands ws bytes at to room → to + length (row_words ws (row_of (row_at ws bytes at)).numbers) ≤ room
 row_of_room ws bytes at to room s = rw s.1 s.2
 
-module _ (ws : List Width) (bytes : List ℕ) (i at next : ℕ) (lent : List ℕ) (behind end : ℕ) (after : List ℕ) (l : RowLeft (mosts (drop i ws)) bytes at next lent behind end after) where
-  pub row-left_none : length ws ≤ i → (at ≡ behind) × (next ≡ end) × (lent ≡ after)
+module _ (ws : List Width) {bytes : List ℕ} {i at next : ℕ} {lent : List ℕ} {behind end : ℕ} {after : List ℕ} (l : RowLeft (mosts (drop i ws)) bytes at next lent behind end after) where
+  pub row-left_none : length ws ≤ i → ◌≡◌ {A = Place} (record { at = at; to = next }) (record { at = behind; to = end }) × (lent ≡ after)
   unfolding row_words
   row-left_none h =
       let e : l.row ≡ record { numbers = []; behind = at } = sym (same _ l.row (sym (row-over ws bytes i at h) ∙ l.found)) in
       giving_none at next lent behind end after (rw (e, drop_of_length-le ws h) at l.giving)
 
-  module _ (d : Width) (h : i < length ws) where
+  module _ (h : i < length ws) where
     abbrev w' : Width
-    w' = get_or ws i d
+    w' = get_or ws i widths.Byte
 
     -- the number that is next, by its width and as one of any
     row-left_next : (n : Number) × (number_at LONG bytes at ≡ done n) × (rest : Row) × (row_at (mosts (drop (i + 1) ws)) bytes n.behind ≡ done rest) × (n.value ≤ most w')
         × Giving (number_words (most w') n.value ++ row_words (mosts (drop (i + 1) ws)) rest.numbers) rest.behind next lent behind end after
     unfolding row_words
     row-left_next =
-        let a = row-was ws bytes i at d h l.row l.found in
-        let g : row_words (mosts (drop i ws)) l.row.numbers ≡ number_words (most w') a.0.value ++ row_words (mosts (drop (i + 1) ws)) a.2.numbers = ap₂ row_words (widths_on ws bytes i at d h) (ap (λ (r : Row). r.numbers) a.4) in
+        let a = row-was ws bytes i at widths.Byte h l.row l.found in
+        let g : row_words (mosts (drop i ws)) l.row.numbers ≡ number_words (most w') a.0.value ++ row_words (mosts (drop (i + 1) ws)) a.2.numbers = ap₂ row_words (widths_on ws bytes i at widths.Byte h) (ap (λ (r : Row). r.numbers) a.4) in
         let b : l.row.behind ≡ a.2.behind = ap (λ (r : Row). r.behind) a.4 in (
           a.0,
           wider (most w') LONG bytes at a.0 (most-long w') a.1,
@@ -204,7 +192,7 @@ module _ (ws : List Width) (bytes : List ℕ) (i at next : ℕ) (lent : List ℕ
     pub row-left_stands : verdict (number_at LONG bytes at) ≡ verdicts.Fine
     row-left_stands = ap verdict row-left_next.1
 
-    module _ (n : Number) (e : number_at LONG bytes at ≡ done n) where
+    module _ {n : Number} (e : number_at LONG bytes at ≡ done n) where
       same_number : row-left_next.0 ≡ n
       same_number = same _ n (sym row-left_next.1 ∙ e)
 
@@ -218,9 +206,9 @@ module _ (ws : List Width) (bytes : List ℕ) (i at next : ℕ) (lent : List ℕ
           let q = length-append (number_words (most w') n.value) (row_words (mosts (drop (i + 1) ws)) row-left_next.2.numbers) in
           omega (arith, k, q)
 
-      pub row-left_more : (to : ℕ) (now : List ℕ) → to ≡ next + length (number_words (most w') n.value) → now ≡ laid lent next (number_words (most w') n.value)
+      pub row-left_more : {to : ℕ} {now : List ℕ} → to ≡ next + length (number_words (most w') n.value) → now ≡ laid lent next (number_words (most w') n.value)
           → RowLeft (mosts (drop (i + 1) ws)) bytes n.behind to now behind end after
-      row-left_more to now t k =
+      row-left_more {to} {now} t k =
           let a = row-left_next in
           record {
             row = a.2;
@@ -228,15 +216,11 @@ module _ (ws : List Width) (bytes : List ℕ) (i at next : ℕ) (lent : List ℕ
             giving = rw t (giving_more _ _ _ next lent now behind end after (rw same_number at a.5) k);
           }
 
-pub rows-left_all : (n : ℕ) (ws bytes : List ℕ) (at to : ℕ) (lent : List ℕ) (room : ℕ) → RowsStand n ws bytes at to room → (let r = rows_of (rows_at n ws bytes at) in
-    RowsLeft n ws bytes at to lent r.behind (to + length (flat (row_words ws) r.rows)) (laid lent to (flat (row_words ws) r.rows)))
-rows-left_all n ws bytes at to lent room s = rw s.1 (record { rows = s.0; found = s.1; giving = record { stops = refl; ends = refl; fills = refl } })
-
 pub rows_of-room : (n : ℕ) (ws bytes : List ℕ) (at to room : ℕ) → RowsStand n ws bytes at to room → to + length (flat (row_words ws) (rows_of (rows_at n ws bytes at)).rows) ≤ room
 rows_of-room n ws bytes at to room s = rw s.1 s.2
 
-module _ (left : ℕ) (ws bytes : List ℕ) (at next : ℕ) (lent : List ℕ) (behind end : ℕ) (after : List ℕ) (l : RowsLeft left ws bytes at next lent behind end after) where
-  pub rows-left_none : left ≤ 0 → (at ≡ behind) × (next ≡ end) × (lent ≡ after)
+module _ {left : ℕ} {ws bytes : List ℕ} {at next : ℕ} {lent : List ℕ} {behind end : ℕ} {after : List ℕ} (l : RowsLeft left ws bytes at next lent behind end after) where
+  pub rows-left_none : left ≤ 0 → ◌≡◌ {A = Place} (record { at = at; to = next }) (record { at = behind; to = end }) × (lent ≡ after)
   unfolding flat
   rows-left_none h =
       let e : l.rows ≡ record { rows = []; behind = at } = sym (same _ l.rows (sym (rows-over ws bytes left at h) ∙ l.found)) in
@@ -248,15 +232,15 @@ module _ (left : ℕ) (ws bytes : List ℕ) (at next : ℕ) (lent : List ℕ) (b
   unfolding flat
   rows-left_next h = let a = rows-were ws bytes left at l.rows h l.found in (a.0, a.1, a.2, a.3, rw a.4 at l.giving)
 
-  pub rows-left_stand : (room : ℕ) → end ≤ room → 0 < left → RowStands ws bytes at next room
-  rows-left_stand room m h =
+  pub rows-left_stand : {room : ℕ} → end ≤ room → 0 < left → RowStands ws bytes at next room
+  rows-left_stand m h =
       let a = rows-left_next h in
       let k = a.4.ends in
       let q = length-append (row_words ws a.0.numbers) (flat (row_words ws) a.2.rows) in
       (a.0, a.1, omega (arith, k, q, m))
 
-  pub rows-left_more : 0 < left → (p : Place) (now : List ℕ) → RowGiven ws bytes at lent next p now → RowsLeft (left - 1) ws bytes p.at p.to now behind end after
-  rows-left_more h p now g =
+  pub rows-left_more : 0 < left → {p : Place} {now : List ℕ} → RowGiven ws bytes at lent next p now → RowsLeft (left - 1) ws bytes p.at p.to now behind end after
+  rows-left_more h {p} {now} g =
       let a = rows-left_next h in
       let o : row_of (row_at ws bytes at) ≡ a.0 = rw a.1 refl in
       let e : p ≡ record { at = a.0.behind; to = next + length (row_words ws a.0.numbers) } = rw o at g.place in
@@ -422,7 +406,7 @@ unfolding rows_at row_at then
 one-row bytes at n e = rw e
 
 -- the count is given first, the rows behind it
-module _ (n : ℕ) (ws bytes : List ℕ) (at to room : ℕ) (s : CountedStands n ws bytes at to room) where
+module _ {n : ℕ} {ws bytes : List ℕ} {at to room : ℕ} (s : CountedStands n ws bytes at to room) where
   abbrev here : Parts ws bytes at s.counted
   here = parts ws bytes at s.counted s.found
 
@@ -433,7 +417,7 @@ module _ (n : ℕ) (ws bytes : List ℕ) (at to room : ℕ) (s : CountedStands n
   unfolding flat row_words
   count-stands = let r = room-here in (_, one-row bytes at here.number here.number_read, omega (arith, r))
 
-  module _ (p : Place) (lent now : List ℕ) (g : RowsGiven 1 ONE bytes at lent to p now) where
+  module _ {p : Place} {lent now : List ℕ} (g : RowsGiven 1 ONE bytes at lent to p now) where
     count-given : (p ≡ record { at = here.number.behind; to = to + 1 }) × (now ≡ set lent to here.number.value)
     unfolding flat row_words laid
     count-given = let e = one-row bytes at here.number here.number_read in (rw e at g.place, rw e at g.kept)
@@ -444,9 +428,9 @@ module _ (n : ℕ) (ws bytes : List ℕ) (at to room : ℕ) (s : CountedStands n
     pub rows-stand : length lent ≡ room → RowsStand n ws bytes p.at p.to (length now)
     rows-stand l = let r = room-here in let k = ap length count-given.1 ∙ length-set lent to _ in rw count-given.0 (here.rows, rows-here, omega (arith, r, k, l))
 
-    pub counted-given : (q : Place) (after : List ℕ) → RowsGiven n ws bytes p.at now p.to q after → CountedGiven ws bytes at lent to q after
+    pub counted-given : {q : Place} {after : List ℕ} → RowsGiven n ws bytes p.at now p.to q after → CountedGiven ws bytes at lent to q after
     unfolding laid
-    counted-given q after k =
+    counted-given {q} {after} k =
         let c : counted_of (counted_at ws bytes at) ≡ record { count = here.number.value; rows = here.rows.rows; behind = here.rows.behind } = ap counted_of s.found ∙ here.shown in
         let f = flat (row_words ws) here.rows.rows in
         let l : to + 1 + length f ≡ to + suc (length f) = omega arith in
@@ -472,7 +456,7 @@ module _ (bytes : List ℕ) (s : Shape) (lent : List ℕ) (h : Stands bytes s (l
         room-left = omega (arith, e);
       }
 
-  module _ (p : Place) (now : List ℕ) (g : CountedGiven ONE bytes s.at lent 0 p now) where
+  module _ {p : Place} {now : List ℕ} (g : CountedGiven ONE bytes s.at lent 0 p now) where
     counts-here : counted_of (counted_at ONE bytes s.at) ≡ shape.counts
     counts-here = ap (λ (s : Shape). counted_of (counted_at ONE bytes s.at)) shape.shown ∙ ap counted_of shape.counts-read
 
@@ -493,8 +477,8 @@ module _ (bytes : List ℕ) (s : Shape) (lent : List ℕ) (h : Stands bytes s (l
           room-left = omega (arith, e, l, t);
         }
 
-    pub index-given : (q : Place) (after : List ℕ) → CountedGiven ENTRY bytes p.at now p.to q after → after ≡ laid lent 0 (words_of bytes)
-    index-given q after k =
+    pub index-given : {q : Place} {after : List ℕ} → CountedGiven ENTRY bytes p.at now p.to q after → after ≡ laid lent 0 (words_of bytes)
+    index-given {q} {after} k =
         let a = counted_words ONE shape.counts in
         let b = counted_words ENTRY shape.entries in
         let c : counted_of (counted_at ENTRY bytes shape.counts.behind) ≡ shape.entries = rw shape.entries-read refl in

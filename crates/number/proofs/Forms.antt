@@ -166,7 +166,7 @@ left-more n bs l h = go l.most l.ends l.formed
           record { most = k; ends = rw (q, le-ltb (128 + n % 128) 128 (omega arith)) at e; formed = refl },
         )
 
--- the bytes that are left of a number's, and how many were before them
+-- What is left of a number's bytes, where so many with the next one were counted.
 pub record Sizing (number rest n : ℕ) : Type 0 where
   pub bytes : List ℕ
   pub left : Left rest bytes
@@ -186,7 +186,7 @@ module _ {number rest n : ℕ} (h : Sizing number rest n) where
       let k = h.counted in
       record { bytes = m.0; left = m.2; counted = omega (arith, e, k) }
 
--- Those that are left to store, where so many were stored: laid from here, they make the whole.
+-- What is left to store of them: laid from here, it makes the whole.
 pub record Storing (lent : List ℕ) (at number rest : ℕ) (now : List ℕ) (i : ℕ) : Type 0 where
   pub bytes : List ℕ
   pub left : Left rest bytes

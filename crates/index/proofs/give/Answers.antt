@@ -6,7 +6,7 @@ pub give_counted-place-requires : goal.give_counted-place-requires
 give_counted-place-requires c = counts-stand _ _ c.args.words.now c.requires
 
 pub give_counted-requires : goal.give_counted-requires
-give_counted-requires c = entries-stand _ _ c.args.words.now c.requires _ _ c.give_counted-place.ensures
+give_counted-requires c = entries-stand _ _ c.args.words.now c.requires c.give_counted-place.ensures
 
 pub returns : goal.returns
-returns c = index-given _ _ c.args.words.now c.requires _ _ c.give_counted-place.ensures _ _ c.give_counted.ensures
+returns c = index-given _ _ c.args.words.now c.requires c.give_counted-place.ensures c.give_counted.ensures

@@ -4,10 +4,10 @@ use Rattle.index.proofs.ReadLaws.{count-stands, rows-stand, counted-given}
 use Rattle.index.proofs.give_counted.Goals as goal
 
 pub give_rows-place-requires : goal.give_rows-place-requires
-give_rows-place-requires c = count-stands _ _ _ _ _ _ c.requires
+give_rows-place-requires c = count-stands c.requires
 
 pub give_rows-requires : goal.give_rows-requires
-give_rows-requires c = rows-stand _ _ _ _ _ _ c.requires _ _ _ c.give_rows-place.ensures refl
+give_rows-requires c = rows-stand c.requires c.give_rows-place.ensures refl
 
 pub returns : goal.returns
-returns c = counted-given _ _ _ _ _ _ c.requires _ _ _ c.give_rows-place.ensures _ _ c.give_rows.ensures
+returns c = counted-given c.requires c.give_rows-place.ensures c.give_rows.ensures
