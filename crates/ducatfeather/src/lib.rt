@@ -10,9 +10,9 @@ ghost use Rattle.format.specs.Call.{called as called_block};
 ghost use Rattle.index.specs.Index as index;
 ghost use Rattle.index.specs.Call as called;
 
+use blob::Refusal;
 use format::list::AREAS;
 use format::{Answer, Guid, GuidsFound, Key, LONGEST, TemplateFound};
-use index::IndexAnswer;
 
 // The numbers of an answer: code, field, place, first, second, and the counts.
 const NUMBERS: usize = 5 + AREAS;
@@ -297,14 +297,14 @@ pub fn ducat_templates_for(
 
 // The words of an index, with n numbers to store the answer in.
 #[tactic(auto, unfolding(index::specs::Call::called_read))]
-fn index_read(bytes: &[u8], numbers: &mut [u32], n: usize) -> IndexAnswer
+fn index_read(bytes: &[u8], numbers: &mut [u32], n: usize) -> Result<usize, Refusal>
     ensures value { result ≡ index.given (called.called_read bytes.now numbers.old n) }
     ensures numbers_after { numbers.new ≡ index.held numbers.old (called.called_read bytes.now numbers.old n) }
 {
     if n == 5 {
         return index::read(bytes, numbers);
     }
-    IndexAnswer::Refused(bounds::own(8))
+    Err(bounds::own(8))
 }
 
 // The bytes of the index of lists, with n numbers to store the answer in.
@@ -315,41 +315,41 @@ fn index_write(
     counts: &[u32],
     bytes: &mut [u8],
     n: usize,
-) -> IndexAnswer
+) -> Result<usize, Refusal>
     ensures value { result ≡ index.given (called.called_write words.now capacities.now counts.now bytes.old n) }
     ensures bytes_after { bytes.new ≡ index.held bytes.old (called.called_write words.now capacities.now counts.now bytes.old n) }
 {
     if !each_row(capacities, counts) {
-        return IndexAnswer::Refused(bounds::own(8));
+        return Err(bounds::own(8));
     }
     if n != 5 {
-        return IndexAnswer::Refused(bounds::own(8));
+        return Err(bounds::own(8));
     }
     indexer::write(words, for_lists(capacities), for_lists(counts), bytes)
 }
 
 // Its five numbers.
-fn index_numbers(a: IndexAnswer) -> [u64; 5]
+fn index_numbers(a: Result<usize, Refusal>) -> [u64; 5]
     ensures { result ≡ called.index_numbers a }
 {
     match a {
-        IndexAnswer::Given(n) => [0, 0, 0, 0, n as u64],
-        IndexAnswer::Refused(r) => [r.code as u64, r.place, r.first, r.second, 0],
+        Ok(n) => [0, 0, 0, 0, n as u64],
+        Err(r) => [r.code as u64, r.place, r.first, r.second, 0],
     }
 }
 
 // Its code.
-fn index_code(a: IndexAnswer) -> u32
+fn index_code(a: Result<usize, Refusal>) -> u32
     ensures { result ≡ get_or (called.index_numbers a) 0 0 }
 {
     match a {
-        IndexAnswer::Given(_) => 0,
-        IndexAnswer::Refused(r) => r.code as u32,
+        Ok(_) => 0,
+        Err(r) => r.code as u32,
     }
 }
 
 // Stores the numbers where as many are lent; hands back the code.
-fn index_told(a: IndexAnswer, answer: &mut [u64]) -> u32
+fn index_told(a: Result<usize, Refusal>, answer: &mut [u64]) -> u32
     ensures value { result ≡ get_or (called.index_numbers a) 0 0 }
     ensures answer_after { answer.new ≡ call.told answer.old (called.index_numbers a) }
 {

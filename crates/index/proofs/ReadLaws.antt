@@ -1,7 +1,7 @@
 -- What holds of rows that are passed and rows that are given: what is left decides.
 use Prim.{tt}
 use Prim.Native.Nat.{ℕ, zero, suc, ◌+◌, ◌-◌, ◌*◌, ◌/◌, ◌%◌, ◌≤◌, ◌<◌}
-use Rattle.std.specs.Prelude.{◌≡◌, Bool, true, false, ◌&&◌, ◌||◌, set, leb, eqb}
+use Rattle.std.specs.Prelude.{◌≡◌, Bool, true, false, set, eqb, Result, Ok, Err}
 use Rattle.std.proofs.Math.Path.{refl, ap, ap₂, sym, subst}
 use Rattle.std.proofs.Common.{◌∙◌, length-append, length-set}
 use mathlib.Core.List.{List, [], ◌∷◌, ◌++◌}
@@ -10,102 +10,104 @@ use Rattle.std.proofs.Math.Numerals.{add-one}
 use native.Mathlib.Omega.{arith}
 use Rattle.std.proofs.Math.ListN.{length, get_or, drop, drop_of_length-le}
 use Rattle.std.proofs.Math.Seq.{drop-cons}
-use borrow.Author.Tests.{eq-eqb, ne_eqb, eqb-true, leb-true, le-leb, lt-leb}
-use Rattle.blob.specs.Reading.{Outcome, done, refused, choose, then, answer, verdict}
+use borrow.Author.Tests.{eq-eqb, ne_eqb, le-leb, lt-leb}
+use Rattle.std.specs.Result.{IsErrAnd}
+use Rattle.std.proofs.lemmas.Result.{err_from_is_err_and}
+use Rattle.blob.specs.Reading.{Outcome, done, refused, choose, then, verdict}
 use Rattle.blob.specs.declared.Verdict.TheVariants as verdicts
-use Rattle.blob.proofs.Laws.{both, same, then-done}
+use Rattle.blob.proofs.Laws.{same, then-done}
 use Rattle.blob.specs.Laid.{laid, flat, length-laid, laid_more, laid-behind}
 use Rattle.blob.specs.declared.Refusal.{Refusal}
 use Rattle.format.proofs.Theorems.Known.{All}
-use Rattle.number.specs.Number.{LONGEST, WORD, LONG, fault, number_at}
-use Rattle.number.specs.Scan.{ones}
-use Rattle.number.proofs.Scan.{wider, read_fits}
+use Rattle.number.specs.Number.{WORD, LONG, fault, number_at}
+use Rattle.number.specs.Scan.{most}
+use Rattle.number.proofs.Scan.{most-long, wider, read_fits}
 use Rattle.number.specs.declared.Number.{Number}
+use Rattle.number.specs.declared.Width.{Width}
+use Rattle.number.specs.declared.Width.TheVariants as widths
 use Rattle.index.specs.Index.{EDITION, ONE, ENTRY, Index, Row, Rows, row_at, rows_at, index, number_words, row_words, INDEX, with_room, reading, AllowedRead}
 use Rattle.format.specs.Answer.{too_small}
-use Rattle.index.specs.declared.IndexAnswer.TheVariants as answers
 use Rattle.index.specs.declared.Word.{Word}
-use Rattle.index.specs.declared.WordRead.TheVariants as word
-use Rattle.index.specs.declared.Behind.{Behind}
-use Rattle.index.specs.declared.Behind.TheVariants as behind
-use Rattle.index.specs.declared.CountedRead.TheVariants as counts
 use Rattle.index.specs.declared.Shape.{Shape}
 use Rattle.index.specs.declared.Place.{Place}
-use Rattle.index.specs.Read.{word_read, behind_row, behind_rows, sound, row_of, rows_of, words_of, Counted, counted_at, counted_read, counted_of, Shaped, narrow, RowStands, RowsStand, RowGiven, RowsGiven, counted_words, CountedStands, CountedGiven, Stands, Giving, RowLeft, RowsLeft, Parts}
+use Rattle.index.specs.Read.{mosts, shows, word_read, behind_number, behind_row, behind_rows, row_of, rows_of, words_of, Counted, counted_at, counted_read, counted_of, Shaped, narrow, RowStands, RowsStand, RowGiven, RowsGiven, counted_words, CountedStands, CountedGiven, Stands, Giving, RowLeft, RowsLeft, Parts}
 
--- what an answer tells of the outcome that it shows
-module _ {A : Type 0} (f : A → ℕ) (o : Outcome A) where
-  abbrev shows : Behind
-  shows = answer (λ a. behind.At (f a)) behind.Refused o
+-- what `?` hands on of a refusal
+pub handed_on : {T : Type 0} {q : Refusal} (r : Result T Refusal) → IsErrAnd r (λ y. y ≡ q) → r ≡ Err q
+handed_on r h = let p = err_from_is_err_and r h in p.1 ∙ ap Err p.2
 
-  pub was_passed : (x : ℕ) → behind.At x ≡ shows → (a : A) × (o ≡ done a) × (f a ≡ x)
-  was_passed x e = go o refl e
+-- what was found, by what is told of it
+module _ {A R : Type 0} (f : A → R) (o : Outcome A) where
+  pub was_found : (x : R) → Ok x ≡ shows f o → (a : A) × (o ≡ done a) × (f a ≡ x)
+  was_found x e = go o refl e
     where
-      go : (p : Outcome A) → o ≡ p → behind.At x ≡ answer (λ a. behind.At (f a)) behind.Refused p → (a : A) × (o ≡ done a) × (f a ≡ x)
+      go : (p : Outcome A) → o ≡ p → Ok x ≡ shows f p → (a : A) × (o ≡ done a) × (f a ≡ x)
       go (done a) p e = (a, p, cc)
       go (refused r) p e = absurd (let z : ◌≡◌ {A = ℕ} 0 1 = cc in omega arith)
 
-  pub was_refused : (q : Refusal) → behind.Refused q ≡ shows → o ≡ refused q
+  pub was_refused : (q : Refusal) → Err q ≡ shows f o → o ≡ refused q
   was_refused q e = go o refl e
     where
-      go : (p : Outcome A) → o ≡ p → behind.Refused q ≡ answer (λ a. behind.At (f a)) behind.Refused p → o ≡ refused q
+      go : (p : Outcome A) → o ≡ p → Err q ≡ shows f p → o ≡ refused q
       go (done a) p e = absurd (let z : ◌≡◌ {A = ℕ} 0 1 = cc in omega arith)
       go (refused r) p e = p ∙ ap refused cc
 
-pub was_word : (o : Outcome Number) (w : Word) → word.Word w ≡ word_read o → (n : Number) × (o ≡ done n) × (n.value ≡ w.value) × (n.behind ≡ w.behind)
+pub was_word : (o : Outcome Number) (w : Word) → Ok w ≡ word_read o → (n : Number) × (o ≡ done n) × (n.value ≡ w.value) × (n.behind ≡ w.behind)
 was_word (done n) w e = (n, refl, cc, cc)
 was_word (refused r) w e = absurd (let z : ◌≡◌ {A = ℕ} 0 1 = cc in omega arith)
 
-pub was_no_word : (o : Outcome Number) (q : Refusal) → word.Refused q ≡ word_read o → o ≡ refused q
-was_no_word (done n) q e = absurd (let z : ◌≡◌ {A = ℕ} 0 1 = cc in omega arith)
-was_no_word (refused r) q e = ap refused cc
+-- what was passed is what is read
+pub passed_read : (bytes : List ℕ) (at next : ℕ) (n : Number) → Ok next ≡ behind_number (number_at WORD bytes at) → number_at LONG bytes at ≡ done n → number_at WORD bytes at ≡ done n
+passed_read bytes at next n e h =
+    let f = was_found _ _ next e in
+    f.1 ∙ ap done (same _ _ (sym (wider WORD LONG bytes at f.0 (omega arith) f.1) ∙ h))
 
--- one of some sound widths
-pub sound-at : (ws : List ℕ) (i : ℕ) → sound ws ≡ true → i < length ws → (ones LONGEST (get_or ws i 0) ≡ true) × ((eqb (get_or ws i 0) LONG || leb (get_or ws i 0) WORD) ≡ true)
-unfolding sound
-sound-at [] i h g = absurd (omega arith)
-sound-at (w ∷ ws) zero h g = let a = both (ones LONGEST w && (eqb w LONG || leb w WORD)) (sound ws) h in both (ones LONGEST w) _ a.0
-sound-at (w ∷ ws) (suc i) h g = sound-at ws i (both (ones LONGEST w && (eqb w LONG || leb w WORD)) (sound ws) h).1 (omega arith)
+pub passed_stands : (bytes : List ℕ) (at next : ℕ) → Ok next ≡ behind_number (number_at WORD bytes at) → verdict (number_at LONG bytes at) ≡ verdicts.Fine
+passed_stands bytes at next e = let f = was_found _ _ next e in ap verdict (wider WORD LONG bytes at f.0 (omega arith) f.1)
 
-pub sound-long : (w : ℕ) → (eqb w LONG || leb w WORD) ≡ true → w ≤ LONG
-sound-long w h = go (eqb w LONG) refl h
-  where
-    go : (t : Bool) → eqb w LONG ≡ t → (t || leb w WORD) ≡ true → w ≤ LONG
-    go true t h = let e = eqb-true w LONG t in omega (arith, e)
-    go false t h = let e = leb-true w WORD h in omega (arith, e)
-
-pub sound-short : (w : ℕ) → (eqb w LONG || leb w WORD) ≡ true → eqb w LONG ≡ false → w ≤ WORD
-sound-short w h f = let g : (false || leb w WORD) ≡ true = rw f at h in leb-true w WORD g
+-- where a width's numbers are not given in two words, they have 32 bits
+most-narrow : (w : Width) → eqb (most w) LONG ≡ false → most w ≤ WORD
+most-narrow widths.Byte e = omega arith
+most-narrow widths.Half e = omega arith
+most-narrow widths.Word e = omega arith
+most-narrow widths.Long e = absurd (let z : ◌≡◌ {A = ℕ} 0 1 = cc in omega arith)
 
 -- A row from one of its widths on: none is left; one, and those behind it.
-module _ (ws bytes : List ℕ) (i at : ℕ) where
-  pub row-over : length ws ≤ i → row_at (drop i ws) bytes at ≡ done (record { numbers = []; behind = at })
+module _ (ws : List Width) (bytes : List ℕ) (i at : ℕ) where
+  pub row-over : length ws ≤ i → row_at (mosts (drop i ws)) bytes at ≡ done (record { numbers = []; behind = at })
   unfolding row_at
   row-over h = rw (drop_of_length-le ws h)
 
-  row_on : i < length ws → row_at (drop i ws) bytes at
-      ≡ then (number_at (get_or ws i 0) bytes at) (λ n. then (row_at (drop (i + 1) ws) bytes n.behind) (λ r. done (record { numbers = n.value ∷ r.numbers; behind = r.behind })))
-  unfolding row_at
-  row_on h = rw (drop-cons ws i 0 h, add-one i)
+  module _ (d : Width) (h : i < length ws) where
+    abbrev w : Width
+    w = get_or ws i d
 
-  pub row-stops : (q : Refusal) → i < length ws → number_at (get_or ws i 0) bytes at ≡ refused q → row_at (drop i ws) bytes at ≡ refused q
-  unfolding then
-  row-stops q h e = row_on h ∙ rw e
+    widths_on : mosts (drop i ws) ≡ most w ∷ mosts (drop (i + 1) ws)
+    widths_on = rw (drop-cons ws i d h, add-one i)
 
-  pub row_goes : (n : Number) (next : ℕ) → i < length ws → number_at (get_or ws i 0) bytes at ≡ done n → n.behind ≡ next → behind_row (row_at (drop i ws) bytes at) ≡ behind_row (row_at (drop (i + 1) ws) bytes next)
-  unfolding then
-  row_goes n next h e g = rw (row_on h, e, g) (go (row_at (drop (i + 1) ws) bytes next))
-    where
-      go : (o : Outcome Row) → behind_row (then o (λ r. done (record { numbers = n.value ∷ r.numbers; behind = r.behind }))) ≡ behind_row o
-      go (done r) = refl
-      go (refused q) = refl
+    row_on : row_at (mosts (drop i ws)) bytes at
+        ≡ then (number_at (most w) bytes at) (λ n. then (row_at (mosts (drop (i + 1) ws)) bytes n.behind) (λ r. done (record { numbers = n.value ∷ r.numbers; behind = r.behind })))
+    unfolding row_at
+    row_on = rw widths_on
 
-  pub row-was : (r : Row) → i < length ws → row_at (drop i ws) bytes at ≡ done r
-      → (n : Number) × (number_at (get_or ws i 0) bytes at ≡ done n) × (rest : Row) × (row_at (drop (i + 1) ws) bytes n.behind ≡ done rest) × (r ≡ record { numbers = n.value ∷ rest.numbers; behind = rest.behind })
-  row-was r h e =
-      let a = then-done (number_at (get_or ws i 0) bytes at) _ r (sym (row_on h) ∙ e) in
-      let b = then-done (row_at (drop (i + 1) ws) bytes a.0.behind) _ r a.2 in
-      (a.0, a.1, b.0, b.1, sym (same _ r b.2))
+    pub row_stops : (q : Refusal) → Err q ≡ behind_number (number_at (most w) bytes at) → Err q ≡ behind_row (row_at (mosts (drop i ws)) bytes at)
+    unfolding then
+    row_stops q e = rw (row_on, was_refused _ _ q e)
+
+    pub row_goes : (next : ℕ) → Ok next ≡ behind_number (number_at (most w) bytes at) → behind_row (row_at (mosts (drop i ws)) bytes at) ≡ behind_row (row_at (mosts (drop (i + 1) ws)) bytes next)
+    unfolding then
+    row_goes next e = let n = was_found _ _ next e in rw (row_on, n.1, n.2) (go n.0 (row_at (mosts (drop (i + 1) ws)) bytes next))
+      where
+        go : (n : Number) (o : Outcome Row) → behind_row (then o (λ r. done (record { numbers = n.value ∷ r.numbers; behind = r.behind }))) ≡ behind_row o
+        go n (done r) = refl
+        go n (refused q) = refl
+
+    pub row-was : (r : Row) → row_at (mosts (drop i ws)) bytes at ≡ done r
+        → (n : Number) × (number_at (most w) bytes at ≡ done n) × (rest : Row) × (row_at (mosts (drop (i + 1) ws)) bytes n.behind ≡ done rest) × (r ≡ record { numbers = n.value ∷ rest.numbers; behind = rest.behind })
+    row-was r e =
+        let a = then-done (number_at (most w) bytes at) _ r (sym row_on ∙ e) in
+        let b = then-done (row_at (mosts (drop (i + 1) ws)) bytes a.0.behind) _ r a.2 in
+        (a.0, a.1, b.0, b.1, sym (same _ r b.2))
 
 -- The same of rows.
 module _ (ws bytes : List ℕ) (left at : ℕ) where
@@ -121,17 +123,17 @@ module _ (ws bytes : List ℕ) (left at : ℕ) where
       go zero h = absurd (omega arith)
       go (suc k) h = rw (suc-sub-suc k 0, sub-zero k)
 
-  pub rows-stop : (q : Refusal) → 0 < left → row_at ws bytes at ≡ refused q → rows_at left ws bytes at ≡ refused q
+  pub rows_stop : (q : Refusal) → 0 < left → Err q ≡ behind_row (row_at ws bytes at) → Err q ≡ behind_rows (rows_at left ws bytes at)
   unfolding then
-  rows-stop q h e = rows_on h ∙ rw e
+  rows_stop q h e = rw (rows_on h, was_refused _ _ q e)
 
-  pub rows-go : (r : Row) (next : ℕ) → 0 < left → row_at ws bytes at ≡ done r → r.behind ≡ next → behind_rows (rows_at left ws bytes at) ≡ behind_rows (rows_at (left - 1) ws bytes next)
+  pub rows_go : (next : ℕ) → 0 < left → Ok next ≡ behind_row (row_at ws bytes at) → behind_rows (rows_at left ws bytes at) ≡ behind_rows (rows_at (left - 1) ws bytes next)
   unfolding then
-  rows-go r next h e g = rw (rows_on h, e, g) (go (rows_at (left - 1) ws bytes next))
+  rows_go next h e = let r = was_found _ _ next e in rw (rows_on h, r.1, r.2) (go r.0 (rows_at (left - 1) ws bytes next))
     where
-      go : (o : Outcome Rows) → behind_rows (then o (λ rs. done (record { rows = r.numbers ∷ rs.rows; behind = rs.behind }))) ≡ behind_rows o
-      go (done r) = refl
-      go (refused q) = refl
+      go : (r : Row) (o : Outcome Rows) → behind_rows (then o (λ rs. done (record { rows = r.numbers ∷ rs.rows; behind = rs.behind }))) ≡ behind_rows o
+      go r (done rs) = refl
+      go r (refused q) = refl
 
   pub rows-were : (r : Rows) → 0 < left → rows_at left ws bytes at ≡ done r
       → (n : Row) × (row_at ws bytes at ≡ done n) × (rest : Rows) × (rows_at (left - 1) ws bytes n.behind ≡ done rest) × (r ≡ record { rows = n.numbers ∷ rest.rows; behind = rest.behind })
@@ -145,98 +147,80 @@ pub giving_more : (g gs : List ℕ) (stop next : ℕ) (lent now : List ℕ) (beh
 giving_more g gs stop next lent now behind end after h e =
     record { stops = h.stops; ends = let a = h.ends in let b = length-append g gs in omega (arith, a, b); fills = rw e (sym (laid_more lent next g gs) ∙ h.fills) }
 
-pub giving_none : (stop next : ℕ) (lent : List ℕ) (behind end : ℕ) (after : List ℕ) → Giving [] stop next lent behind end after → (stop ≡ behind) × (next ≡ end) × (lent ≡ after)
+pub giving_none : (stop next : ℕ) (lent : List ℕ) (behind end : ℕ) (after : List ℕ) → Giving [] stop next lent behind end after
+    → ◌≡◌ {A = Place} (record { at = stop; to = next }) (record { at = behind; to = end }) × (lent ≡ after)
 unfolding laid
-giving_none stop next lent behind end after h = (h.stops, (let a = h.ends in omega (arith, a)), h.fills)
+giving_none stop next lent behind end after h = let a = h.ends in (ap₂ (λ p t. record { at = p; to = t }) h.stops (omega (arith, a)), h.fills)
 
--- a number's words
-module _ (w n : ℕ) where
-  pub words-some : 1 ≤ length (number_words w n)
-  words-some = go (eqb w LONG)
-    where
-      go : (t : Bool) → 1 ≤ length (choose t (n % 4294967296 ∷ n / 4294967296 ∷ []) (n ∷ []))
-      go true = omega arith
-      go false = omega arith
-
-  pub words-two : w ≡ LONG → number_words w n ≡ n % 4294967296 ∷ n / 4294967296 ∷ []
-  words-two e = rw (eq-eqb w LONG e)
-
-  pub words-one : (w ≡ LONG → ⊥) → narrow w n → number_words w n ≡ n % 4294967296 ∷ []
-  words-one h f =
-      let e = ne_eqb w LONG h in
-      let l = f e in
-      let m : n % 4294967296 ≡ n = omega (arith, l) in
-      rw (e, m)
-
-pub row-left_all : (ws bytes : List ℕ) (at to : ℕ) (lent : List ℕ) (room : ℕ) → RowStands ws bytes at to room → (let r = row_of (row_at ws bytes at) in
-    RowLeft ws bytes at to lent r.behind (to + length (row_words ws r.numbers)) (laid lent to (row_words ws r.numbers)))
-row-left_all ws bytes at to lent room s = rw s.1 (record { row = s.0; found = s.1; giving = record { stops = refl; ends = refl; fills = refl } })
+-- the one word of a number that has none of 64 bits
+pub words_one : (w : Width) (n : ℕ) → (w ≡ widths.Long → ⊥) → narrow (most w) n → number_words (most w) n ≡ n % 4294967296 ∷ []
+words_one widths.Byte n h f = ap (λ x. x ∷ []) (let l = f refl in omega (arith, l))
+words_one widths.Half n h f = ap (λ x. x ∷ []) (let l = f refl in omega (arith, l))
+words_one widths.Word n h f = ap (λ x. x ∷ []) (let l = f refl in omega (arith, l))
+words_one widths.Long n h f = absurd (h refl)
 
 pub row_of_room : (ws bytes : List ℕ) (at to room : ℕ) → RowStands ws bytes at to room → to + length (row_words ws (row_of (row_at ws bytes at)).numbers) ≤ room
 row_of_room ws bytes at to room s = rw s.1 s.2
 
-module _ (ws bytes : List ℕ) (i at next : ℕ) (lent : List ℕ) (behind end : ℕ) (after : List ℕ) (l : RowLeft (drop i ws) bytes at next lent behind end after) where
-  pub row-left_none : length ws ≤ i → (at ≡ behind) × (next ≡ end) × (lent ≡ after)
+module _ (ws : List Width) {bytes : List ℕ} {i at next : ℕ} {lent : List ℕ} {behind end : ℕ} {after : List ℕ} (l : RowLeft (mosts (drop i ws)) bytes at next lent behind end after) where
+  pub row-left_none : length ws ≤ i → ◌≡◌ {A = Place} (record { at = at; to = next }) (record { at = behind; to = end }) × (lent ≡ after)
   unfolding row_words
   row-left_none h =
       let e : l.row ≡ record { numbers = []; behind = at } = sym (same _ l.row (sym (row-over ws bytes i at h) ∙ l.found)) in
       giving_none at next lent behind end after (rw (e, drop_of_length-le ws h) at l.giving)
 
-  -- the number that is next, by its width and as one of any
-  row-left_next : sound ws ≡ true → i < length ws
-      → (n : Number) × (number_at LONG bytes at ≡ done n) × (rest : Row) × (row_at (drop (i + 1) ws) bytes n.behind ≡ done rest) × (n.value ≤ get_or ws i 0)
-      × Giving (number_words (get_or ws i 0) n.value ++ row_words (drop (i + 1) ws) rest.numbers) rest.behind next lent behind end after
-  unfolding row_words
-  row-left_next s h =
-      let w = get_or ws i 0 in
-      let a = row-was ws bytes i at l.row h l.found in
-      let d = drop-cons ws i 0 h ∙ ap (λ j. w ∷ drop j ws) (sym (add-one i)) in
-      let g : row_words (drop i ws) l.row.numbers ≡ number_words w a.0.value ++ row_words (drop (i + 1) ws) a.2.numbers = ap₂ row_words d (ap (λ (r : Row). r.numbers) a.4) in
-      let b : l.row.behind ≡ a.2.behind = ap (λ (r : Row). r.behind) a.4 in (
-        a.0,
-        wider w LONG bytes at a.0 (sound-long w (sound-at ws i s h).1) a.1,
-        a.2,
-        a.3,
-        read_fits w bytes at a.0 a.1,
-        subst (λ (gs : List ℕ). Giving gs a.2.behind next lent behind end after) g (subst (λ stop. Giving (row_words (drop i ws) l.row.numbers) stop next lent behind end after) b l.giving),
-      )
+  module _ (h : i < length ws) where
+    abbrev w' : Width
+    w' = get_or ws i widths.Byte
 
-  pub row-left_stands : sound ws ≡ true → i < length ws → verdict (number_at LONG bytes at) ≡ verdicts.Fine
-  row-left_stands s h = ap verdict (row-left_next s h).1
+    -- the number that is next, by its width and as one of any
+    row-left_next : (n : Number) × (number_at LONG bytes at ≡ done n) × (rest : Row) × (row_at (mosts (drop (i + 1) ws)) bytes n.behind ≡ done rest) × (n.value ≤ most w')
+        × Giving (number_words (most w') n.value ++ row_words (mosts (drop (i + 1) ws)) rest.numbers) rest.behind next lent behind end after
+    unfolding row_words
+    row-left_next =
+        let a = row-was ws bytes i at widths.Byte h l.row l.found in
+        let g : row_words (mosts (drop i ws)) l.row.numbers ≡ number_words (most w') a.0.value ++ row_words (mosts (drop (i + 1) ws)) a.2.numbers = ap₂ row_words (widths_on ws bytes i at widths.Byte h) (ap (λ (r : Row). r.numbers) a.4) in
+        let b : l.row.behind ≡ a.2.behind = ap (λ (r : Row). r.behind) a.4 in (
+          a.0,
+          wider (most w') LONG bytes at a.0 (most-long w') a.1,
+          a.2,
+          a.3,
+          read_fits (most w') bytes at a.0 a.1,
+          subst (λ (gs : List ℕ). Giving gs a.2.behind next lent behind end after) g (subst (λ stop. Giving (row_words (mosts (drop i ws)) l.row.numbers) stop next lent behind end after) b l.giving),
+        )
 
-  module _ (n : Number) (e : number_at LONG bytes at ≡ done n) (s : sound ws ≡ true) (h : i < length ws) where
-    same_number : (row-left_next s h).0 ≡ n
-    same_number = same _ n (sym (row-left_next s h).1 ∙ e)
+    pub row-left_stands : verdict (number_at LONG bytes at) ≡ verdicts.Fine
+    row-left_stands = ap verdict row-left_next.1
 
-    pub row-left_narrow : narrow (get_or ws i 0) n.value
-    row-left_narrow f = let b = sound-short (get_or ws i 0) (sound-at ws i s h).1 f in let a = rw same_number at (row-left_next s h).4 in omega (arith, a, b)
+    module _ {n : Number} (e : number_at LONG bytes at ≡ done n) where
+      same_number : row-left_next.0 ≡ n
+      same_number = same _ n (sym row-left_next.1 ∙ e)
 
-    pub row-left_room : next + length (number_words (get_or ws i 0) n.value) ≤ end
-    row-left_room =
-        let g = rw same_number at (row-left_next s h).5 in
-        let k = g.ends in
-        let q = length-append (number_words (get_or ws i 0) n.value) (row_words (drop (i + 1) ws) (row-left_next s h).2.numbers) in
-        omega (arith, k, q)
+      pub row-left_narrow : narrow (most w') n.value
+      row-left_narrow f = let b = most-narrow w' f in let a = rw same_number at row-left_next.4 in omega (arith, a, b)
 
-    pub row-left_more : (to : ℕ) (now : List ℕ) → to ≡ next + length (number_words (get_or ws i 0) n.value) → now ≡ laid lent next (number_words (get_or ws i 0) n.value)
-        → RowLeft (drop (i + 1) ws) bytes n.behind to now behind end after
-    row-left_more to now t k =
-        let a = row-left_next s h in
-        record {
-          row = a.2;
-          found = rw same_number at a.3;
-          giving = rw t (giving_more _ _ _ next lent now behind end after (rw same_number at a.5) k);
-        }
+      pub row-left_room : next + length (number_words (most w') n.value) ≤ end
+      row-left_room =
+          let g = rw same_number at row-left_next.5 in
+          let k = g.ends in
+          let q = length-append (number_words (most w') n.value) (row_words (mosts (drop (i + 1) ws)) row-left_next.2.numbers) in
+          omega (arith, k, q)
 
-pub rows-left_all : (n : ℕ) (ws bytes : List ℕ) (at to : ℕ) (lent : List ℕ) (room : ℕ) → RowsStand n ws bytes at to room → (let r = rows_of (rows_at n ws bytes at) in
-    RowsLeft n ws bytes at to lent r.behind (to + length (flat (row_words ws) r.rows)) (laid lent to (flat (row_words ws) r.rows)))
-rows-left_all n ws bytes at to lent room s = rw s.1 (record { rows = s.0; found = s.1; giving = record { stops = refl; ends = refl; fills = refl } })
+      pub row-left_more : {to : ℕ} {now : List ℕ} → to ≡ next + length (number_words (most w') n.value) → now ≡ laid lent next (number_words (most w') n.value)
+          → RowLeft (mosts (drop (i + 1) ws)) bytes n.behind to now behind end after
+      row-left_more {to} {now} t k =
+          let a = row-left_next in
+          record {
+            row = a.2;
+            found = rw same_number at a.3;
+            giving = rw t (giving_more _ _ _ next lent now behind end after (rw same_number at a.5) k);
+          }
 
 pub rows_of-room : (n : ℕ) (ws bytes : List ℕ) (at to room : ℕ) → RowsStand n ws bytes at to room → to + length (flat (row_words ws) (rows_of (rows_at n ws bytes at)).rows) ≤ room
 rows_of-room n ws bytes at to room s = rw s.1 s.2
 
-module _ (left : ℕ) (ws bytes : List ℕ) (at next : ℕ) (lent : List ℕ) (behind end : ℕ) (after : List ℕ) (l : RowsLeft left ws bytes at next lent behind end after) where
-  pub rows-left_none : left ≤ 0 → (at ≡ behind) × (next ≡ end) × (lent ≡ after)
+module _ {left : ℕ} {ws bytes : List ℕ} {at next : ℕ} {lent : List ℕ} {behind end : ℕ} {after : List ℕ} (l : RowsLeft left ws bytes at next lent behind end after) where
+  pub rows-left_none : left ≤ 0 → ◌≡◌ {A = Place} (record { at = at; to = next }) (record { at = behind; to = end }) × (lent ≡ after)
   unfolding flat
   rows-left_none h =
       let e : l.rows ≡ record { rows = []; behind = at } = sym (same _ l.rows (sym (rows-over ws bytes left at h) ∙ l.found)) in
@@ -248,15 +232,15 @@ module _ (left : ℕ) (ws bytes : List ℕ) (at next : ℕ) (lent : List ℕ) (b
   unfolding flat
   rows-left_next h = let a = rows-were ws bytes left at l.rows h l.found in (a.0, a.1, a.2, a.3, rw a.4 at l.giving)
 
-  pub rows-left_stand : (room : ℕ) → end ≤ room → 0 < left → RowStands ws bytes at next room
-  rows-left_stand room m h =
+  pub rows-left_stand : {room : ℕ} → end ≤ room → 0 < left → RowStands ws bytes at next room
+  rows-left_stand m h =
       let a = rows-left_next h in
       let k = a.4.ends in
       let q = length-append (row_words ws a.0.numbers) (flat (row_words ws) a.2.rows) in
       (a.0, a.1, omega (arith, k, q, m))
 
-  pub rows-left_more : 0 < left → (p : Place) (now : List ℕ) → RowGiven ws bytes at lent next p now → RowsLeft (left - 1) ws bytes p.at p.to now behind end after
-  rows-left_more h p now g =
+  pub rows-left_more : 0 < left → {p : Place} {now : List ℕ} → RowGiven ws bytes at lent next p now → RowsLeft (left - 1) ws bytes p.at p.to now behind end after
+  rows-left_more h {p} {now} g =
       let a = rows-left_next h in
       let o : row_of (row_at ws bytes at) ≡ a.0 = rw a.1 refl in
       let e : p ≡ record { at = a.0.behind; to = next + length (row_words ws a.0.numbers) } = rw o at g.place in
@@ -274,7 +258,7 @@ module _ (ws bytes : List ℕ) (at : ℕ) where
     unfolding counted_at then
     counted-stops q h = rw (e, f, g, h)
 
-    pub counted-goes : (r : Rows) (x : ℕ) → rows_at v ws bytes b ≡ done r → r.behind ≡ x → counted_read (counted_at ws bytes at) ≡ counts.Counted (record { value = v; behind = x })
+    pub counted-goes : (r : Rows) (x : ℕ) → rows_at v ws bytes b ≡ done r → r.behind ≡ x → counted_read (counted_at ws bytes at) ≡ Ok (record { value = v; behind = x })
     unfolding counted_at then
     counted-goes r x h k = rw (e, f, g, h, k)
 
@@ -293,13 +277,9 @@ module _ (ws bytes : List ℕ) (at : ℕ) where
       go (done n) = rest n (rows_at n.value ws bytes n.behind)
       go (refused q) = refl
 
-pub was_counted : (o : Outcome Counted) (w : Word) → counts.Counted w ≡ counted_read o → (c : Counted) × (o ≡ done c) × (c.count ≡ w.value) × (c.behind ≡ w.behind)
+pub was_counted : (o : Outcome Counted) (w : Word) → Ok w ≡ counted_read o → (c : Counted) × (o ≡ done c) × (c.count ≡ w.value) × (c.behind ≡ w.behind)
 was_counted (done c) w e = (c, refl, cc, cc)
 was_counted (refused r) w e = absurd (let z : ◌≡◌ {A = ℕ} 0 1 = cc in omega arith)
-
-pub was_not_counted : (o : Outcome Counted) (q : Refusal) → counts.Refused q ≡ counted_read o → o ≡ refused q
-was_not_counted (done c) q e = absurd (let z : ◌≡◌ {A = ℕ} 0 1 = cc in omega arith)
-was_not_counted (refused r) q e = ap refused cc
 
 -- The index by its parts: its edition, the providers' counts, the entries.
 abbrev from_entries : List ℕ → Counted → Counted → Outcome Index
@@ -426,7 +406,7 @@ unfolding rows_at row_at then
 one-row bytes at n e = rw e
 
 -- the count is given first, the rows behind it
-module _ (n : ℕ) (ws bytes : List ℕ) (at to room : ℕ) (s : CountedStands n ws bytes at to room) where
+module _ {n : ℕ} {ws bytes : List ℕ} {at to room : ℕ} (s : CountedStands n ws bytes at to room) where
   abbrev here : Parts ws bytes at s.counted
   here = parts ws bytes at s.counted s.found
 
@@ -437,7 +417,7 @@ module _ (n : ℕ) (ws bytes : List ℕ) (at to room : ℕ) (s : CountedStands n
   unfolding flat row_words
   count-stands = let r = room-here in (_, one-row bytes at here.number here.number_read, omega (arith, r))
 
-  module _ (p : Place) (lent now : List ℕ) (g : RowsGiven 1 ONE bytes at lent to p now) where
+  module _ {p : Place} {lent now : List ℕ} (g : RowsGiven 1 ONE bytes at lent to p now) where
     count-given : (p ≡ record { at = here.number.behind; to = to + 1 }) × (now ≡ set lent to here.number.value)
     unfolding flat row_words laid
     count-given = let e = one-row bytes at here.number here.number_read in (rw e at g.place, rw e at g.kept)
@@ -448,9 +428,9 @@ module _ (n : ℕ) (ws bytes : List ℕ) (at to room : ℕ) (s : CountedStands n
     pub rows-stand : length lent ≡ room → RowsStand n ws bytes p.at p.to (length now)
     rows-stand l = let r = room-here in let k = ap length count-given.1 ∙ length-set lent to _ in rw count-given.0 (here.rows, rows-here, omega (arith, r, k, l))
 
-    pub counted-given : (q : Place) (after : List ℕ) → RowsGiven n ws bytes p.at now p.to q after → CountedGiven ws bytes at lent to q after
+    pub counted-given : {q : Place} {after : List ℕ} → RowsGiven n ws bytes p.at now p.to q after → CountedGiven ws bytes at lent to q after
     unfolding laid
-    counted-given q after k =
+    counted-given {q} {after} k =
         let c : counted_of (counted_at ws bytes at) ≡ record { count = here.number.value; rows = here.rows.rows; behind = here.rows.behind } = ap counted_of s.found ∙ here.shown in
         let f = flat (row_words ws) here.rows.rows in
         let l : to + 1 + length f ≡ to + suc (length f) = omega arith in
@@ -476,7 +456,7 @@ module _ (bytes : List ℕ) (s : Shape) (lent : List ℕ) (h : Stands bytes s (l
         room-left = omega (arith, e);
       }
 
-  module _ (p : Place) (now : List ℕ) (g : CountedGiven ONE bytes s.at lent 0 p now) where
+  module _ {p : Place} {now : List ℕ} (g : CountedGiven ONE bytes s.at lent 0 p now) where
     counts-here : counted_of (counted_at ONE bytes s.at) ≡ shape.counts
     counts-here = ap (λ (s : Shape). counted_of (counted_at ONE bytes s.at)) shape.shown ∙ ap counted_of shape.counts-read
 
@@ -497,8 +477,8 @@ module _ (bytes : List ℕ) (s : Shape) (lent : List ℕ) (h : Stands bytes s (l
           room-left = omega (arith, e, l, t);
         }
 
-    pub index-given : (q : Place) (after : List ℕ) → CountedGiven ENTRY bytes p.at now p.to q after → after ≡ laid lent 0 (words_of bytes)
-    index-given q after k =
+    pub index-given : {q : Place} {after : List ℕ} → CountedGiven ENTRY bytes p.at now p.to q after → after ≡ laid lent 0 (words_of bytes)
+    index-given {q} {after} k =
         let a = counted_words ONE shape.counts in
         let b = counted_words ENTRY shape.entries in
         let c : counted_of (counted_at ENTRY bytes shape.counts.behind) ≡ shape.entries = rw shape.entries-read refl in
@@ -508,12 +488,12 @@ module _ (bytes : List ℕ) (s : Shape) (lent : List ℕ) (h : Stands bytes s (l
 
 -- what reading answers: where the bytes are no index, where the words are too few, and else
 module _ (bytes lent : List ℕ) where
-  pub read_refused : (r : Refusal) → index bytes ≡ refused r → AllowedRead bytes lent (answers.Refused r) lent
+  pub read_refused : (r : Refusal) → index bytes ≡ refused r → AllowedRead bytes lent (Err r) lent
   unfolding reading then
   read_refused r e = record { answered = rw e refl; kept = rw e refl }
 
   module _ (s : Shape) (h : Shaped bytes s) where
-    pub read_over : (s.end ≡ length bytes → ⊥) → AllowedRead bytes lent (answers.Refused (fault 18 s.end)) lent
+    pub read_over : (s.end ≡ length bytes → ⊥) → AllowedRead bytes lent (Err (fault 18 s.end)) lent
     read_over o =
         let q = ap (λ (s : Shape). s.end) h.shown in
         let l = left_over bytes h.edition h.edition_read h.edition_one h.counts h.counts-read h.entries h.entries-read (λ e. o (q ∙ e)) in
@@ -526,18 +506,18 @@ module _ (bytes lent : List ℕ) where
           let w = whole bytes h.edition h.edition_read h.edition_one h.counts h.counts-read h.entries h.entries-read (all_read bytes s h b) in
           rw w
 
-      pub read_short : length lent < 2 + s.providers + 10 * s.entries → AllowedRead bytes lent (answers.Refused (too_small INDEX (length lent))) lent
+      pub read_short : length lent < 2 + s.providers + 10 * s.entries → AllowedRead bytes lent (Err (too_small INDEX (length lent))) lent
       read_short g =
           let n = (shaped_words bytes s h b).1 in
           let e = lt-leb (length (words_of bytes)) (length lent) (omega (arith, n, g)) in
           record { answered = rw (found, e) refl; kept = rw (found, e) refl }
 
       pub read_given : 2 + s.providers + 10 * s.entries ≤ length lent → (after : List ℕ) → after ≡ laid lent 0 (words_of bytes)
-          → AllowedRead bytes lent (answers.Given (2 + s.providers + 10 * s.entries)) after
+          → AllowedRead bytes lent (Ok (2 + s.providers + 10 * s.entries)) after
       read_given g after k =
           let n = (shaped_words bytes s h b).1 in
           let e = le-leb (length (words_of bytes)) (length lent) (omega (arith, n, g)) in
-          record { answered = rw (found, e) (ap answers.Given (sym n)); kept = rw (found, e) k }
+          record { answered = rw (found, e) (ap Ok (sym n)); kept = rw (found, e) k }
 
       pub stands : 2 + s.providers + 10 * s.entries ≤ length lent → Stands bytes s (length lent)
       stands g = let n = (shaped_words bytes s h b).1 in (h, b, omega (arith, n, g))

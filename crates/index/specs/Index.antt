@@ -1,8 +1,9 @@
 -- The event index: what it holds, the bytes that it is written as, and how these are read back. "Write, and read back, an index of every
 -- event with a found template." (request 05)
-use Rattle.std.specs.Prelude.{ℕ, zero, suc, ◌+◌, ◌*◌, ◌/◌, ◌%◌, ◌≡◌, Bool, true, ◌&&◌, List, [], ◌∷◌, ◌++◌, map, length, take, drop, leb, eqb}
+use Rattle.std.specs.Prelude.{ℕ, zero, suc, ◌+◌, ◌*◌, ◌/◌, ◌%◌, ◌≡◌, Bool, true, ◌&&◌, List, [], ◌∷◌, ◌++◌, map, length, take, drop, leb, eqb, Result, Ok, Err}
 use Rattle.blob.specs.Reading.{Outcome, done, refused, choose, then, answer}
 use Rattle.blob.specs.Laid.{laid, flat}
+use Rattle.blob.specs.declared.Refusal.{Refusal}
 use Rattle.number.specs.Number.{BYTE, HALF, WORD, LONG, form, fault, number_at}
 use Rattle.format.specs.Area.{PROVIDERS, TABLES, EVENTS, TEMPLATES}
 use Rattle.format.specs.Entry.{EVENT_TEMPLATE}
@@ -10,8 +11,6 @@ use Rattle.format.specs.Lists.{Entry}
 use Rattle.format.specs.Answer.{own, too_small, lent_enough}
 use Rattle.format.specs.Lookup.{entries_of, word_of, counts_fit, every, tables_fit, tables_own}
 use Rattle.format.specs.Owner.{events_owned, found_events}
-use Rattle.index.specs.declared.IndexAnswer.{IndexAnswer}
-use Rattle.index.specs.declared.IndexAnswer.TheVariants as answers
 
 abbrev pub EDITION : ℕ
 EDITION = 1
@@ -136,18 +135,18 @@ module _ (words capacities counts : List ℕ) where
       (refused (own 8))
 
 -- what the code answers, and what the lent bytes or words then hold
-abbrev pub given : Outcome (List ℕ) → IndexAnswer
-given o = answer (λ g. answers.Given (length g)) answers.Refused o
+abbrev pub given : Outcome (List ℕ) → Result ℕ Refusal
+given o = answer (λ g. Ok (length g)) Err o
 
 abbrev pub held : List ℕ → Outcome (List ℕ) → List ℕ
 held lent (done g) = laid lent 0 g
 held lent (refused r) = lent
 
 -- What the code promises.
-pub record AllowedRead (bytes lent : List ℕ) (a : IndexAnswer) (after : List ℕ) : Type 0 where
+pub record AllowedRead (bytes lent : List ℕ) (a : Result ℕ Refusal) (after : List ℕ) : Type 0 where
   pub answered : a ≡ given (reading bytes lent)
   pub kept : after ≡ held lent (reading bytes lent)
 
-pub record AllowedWrite (words capacities counts lent : List ℕ) (a : IndexAnswer) (after : List ℕ) : Type 0 where
+pub record AllowedWrite (words capacities counts lent : List ℕ) (a : Result ℕ Refusal) (after : List ℕ) : Type 0 where
   pub answered : a ≡ given (writing words capacities counts lent)
   pub kept : after ≡ held lent (writing words capacities counts lent)

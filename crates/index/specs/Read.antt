@@ -1,38 +1,39 @@
 -- What the code speaks of: rows that are passed and rows that are given, what is left decides.
 use Prim.Native.Nat.{ℕ, ◌+◌, ◌≤◌}
-use Rattle.std.specs.Prelude.{◌≡◌, Bool, true, false, ◌&&◌, ◌||◌, leb, eqb}
+use Rattle.std.specs.Prelude.{◌≡◌, false, map, Result, Ok, Err, eqb}
 use mathlib.Core.List.{List, [], ◌∷◌}
 use Rattle.std.proofs.Math.ListN.{length}
 use Rattle.blob.specs.Reading.{Outcome, done, refused, then, answer}
 use Rattle.blob.specs.Laid.{laid, flat}
-use Rattle.number.specs.Number.{LONGEST, WORD, LONG, number_at}
-use Rattle.number.specs.Scan.{ones}
+use Rattle.blob.specs.declared.Refusal.{Refusal}
+use Rattle.number.specs.Number.{WORD, LONG, number_at}
+use Rattle.number.specs.Scan.{most}
 use Rattle.number.specs.declared.Number.{Number}
+use Rattle.number.specs.declared.Width.{Width}
 use Rattle.index.specs.Index.{EDITION, ONE, ENTRY, Index, Row, Rows, row_at, rows_at, index, row_words, words}
-use Rattle.index.specs.declared.WordRead.{WordRead}
-use Rattle.index.specs.declared.WordRead.TheVariants as word
-use Rattle.index.specs.declared.Behind.{Behind}
-use Rattle.index.specs.declared.Behind.TheVariants as behind
-use Rattle.index.specs.declared.CountedRead.{CountedRead}
-use Rattle.index.specs.declared.CountedRead.TheVariants as counts
+use Rattle.index.specs.declared.Word.{Word}
 use Rattle.index.specs.declared.Shape.{Shape}
-use Rattle.index.specs.declared.Checked.{Checked}
-use Rattle.index.specs.declared.Checked.TheVariants as checks
 use Rattle.index.specs.declared.Place.{Place}
 
-abbrev pub word_read : Outcome Number → WordRead
-word_read o = answer (λ n. word.Word (record { value = n.value; behind = n.behind })) word.Refused o
+-- the largest numbers of some widths
+abbrev pub mosts : List Width → List ℕ
+mosts ws = map most ws
 
-abbrev pub behind_row : Outcome Row → Behind
-behind_row o = answer (λ r. behind.At r.behind) behind.Refused o
+-- what a function tells of what it found
+abbrev pub shows : {A R : Type 0} → (A → R) → Outcome A → Result R Refusal
+shows f o = answer (λ a. Ok (f a)) Err o
 
-abbrev pub behind_rows : Outcome Rows → Behind
-behind_rows o = answer (λ r. behind.At r.behind) behind.Refused o
+abbrev pub behind_number : Outcome Number → Result ℕ Refusal
+behind_number o = shows (λ n. n.behind) o
 
--- widths that a number can have: ones only, and 64 bits where more than 32
-unfoldable pub sound : List ℕ → Bool
-sound [] = true
-sound (w ∷ ws) = (ones LONGEST w && (eqb w LONG || leb w WORD)) && sound ws
+abbrev pub word_read : Outcome Number → Result Word Refusal
+word_read o = shows (λ n. record { value = n.value; behind = n.behind }) o
+
+abbrev pub behind_row : Outcome Row → Result ℕ Refusal
+behind_row o = shows (λ r. r.behind) o
+
+abbrev pub behind_rows : Outcome Rows → Result ℕ Refusal
+behind_rows o = shows (λ r. r.behind) o
 
 -- what was found, where something was
 abbrev pub row_of : Outcome Row → Row
@@ -58,8 +59,8 @@ unfoldable pub counted_at : List ℕ → List ℕ → ℕ → Outcome Counted
 counted_at ws bytes at =
     then (number_at WORD bytes at) (λ n. then (rows_at n.value ws bytes n.behind) (λ r. done (record { count = n.value; rows = r.rows; behind = r.behind })))
 
-abbrev pub counted_read : Outcome Counted → CountedRead
-counted_read o = answer (λ c. counts.Counted (record { value = c.count; behind = c.behind })) counts.Refused o
+abbrev pub counted_read : Outcome Counted → Result Word Refusal
+counted_read o = shows (λ c. record { value = c.count; behind = c.behind }) o
 
 abbrev pub counted_of : Outcome Counted → Counted
 counted_of o = answer (λ c. c) (λ q. record { count = 0; rows = []; behind = 0 }) o
@@ -75,9 +76,9 @@ pub record Shaped (bytes : List ℕ) (s : Shape) : Type 0 where
   pub entries-read : counted_at ENTRY bytes (counts).behind ≡ done entries
   pub shown : s ≡ record { at = edition.behind; providers = (counts).count; entries = entries.count; end = entries.behind }
 
-abbrev pub Told : List ℕ → Checked → Type 0
-Told bytes (checks.Fine s) = Shaped bytes s
-Told bytes (checks.Refused r) = index bytes ≡ refused r
+abbrev pub Told : List ℕ → Result Shape Refusal → Type 0
+Told bytes (Ok s) = Shaped bytes s
+Told bytes (Err r) = index bytes ≡ refused r
 
 -- a number that is no longer than its words
 abbrev pub narrow : ℕ → ℕ → Type 0

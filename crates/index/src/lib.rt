@@ -1,57 +1,43 @@
 // The event index, read back: all bytes are tested, then the words are given.
 #![tactic(auto)]
 
-ghost use Rattle.std.specs.Prelude.{◌≡◌, true, ◌+◌, ◌≤◌, length};
-ghost use Rattle.blob.specs.Laid.{laid, flat};
+ghost use Rattle.std.specs.Prelude.{◌≡◌, ◌+◌, ◌≤◌, length};
+ghost use Rattle.blob.specs.Laid.{laid};
 ghost use Rattle.format.specs.Answer.{too_small};
 ghost use Rattle.number.specs.Number.{number_at};
 ghost use Rattle.number.specs.Number as number;
+ghost use Rattle.number.specs.Scan.{most};
 ghost use Rattle.index.specs.Index as right;
 ghost use Rattle.index.specs.Read as spec;
 
 use blob::Refusal;
-use number::{BYTE, HALF, LONG, Passed, WORD};
+use number::Width;
 
 // The index's number among the lists.
 const INDEX: u32 = 15;
 
+const EDITION: u32 = 1;
+
 // The widths of a number by itself, and of an entry's numbers.
-const ONE: [u64; 1] = [WORD];
+const ONE: [Width; 1] = [Width::Word];
 
-const ENTRY: [u64; 9] = [WORD, HALF, BYTE, BYTE, BYTE, BYTE, HALF, LONG, WORD];
+const ENTRY: [Width; 9] = [
+    Width::Word, // provider's number
+    Width::Half, // identifier
+    Width::Byte, // version
+    Width::Byte, // channel
+    Width::Byte, // level
+    Width::Byte, // opcode
+    Width::Half, // task
+    Width::Long, // keywords
+    Width::Word, // template offset
+];
 
-// How many bytes or words are given, or why none are.
-#[derive(Clone, Copy)]
-pub enum IndexAnswer {
-    Given(usize),
-    Refused(Refusal),
-}
-
-// A number of 32 bits, and the place behind it.
+// A number of 32 bits, and the place behind it; or a count, and the place behind its rows.
 #[derive(Clone, Copy)]
 pub struct Word {
     pub value: u32,
     pub behind: usize,
-}
-
-#[derive(Clone, Copy)]
-pub enum WordRead {
-    Word(Word),
-    Refused(Refusal),
-}
-
-// The place behind some numbers.
-#[derive(Clone, Copy)]
-pub enum Behind {
-    At(usize),
-    Refused(Refusal),
-}
-
-// A count and the place behind its rows.
-#[derive(Clone, Copy)]
-pub enum CountedRead {
-    Counted(Word),
-    Refused(Refusal),
 }
 
 // What an index has that was tested: the place behind its edition, how many providers, how many entries, the place behind them.
@@ -61,12 +47,6 @@ pub struct Shape {
     pub providers: u32,
     pub entries: u32,
     pub end: usize,
-}
-
-#[derive(Clone, Copy)]
-pub enum Checked {
-    Fine(Shape),
-    Refused(Refusal),
 }
 
 // Where reading and giving go on.
@@ -102,94 +82,73 @@ pub fn short(lent: usize) -> Refusal
     }
 }
 
+// Passes the number at a place, of a width.
+fn pass(bytes: &[u8], at: usize, width: Width) -> Result<usize, Refusal>
+    ensures { result ≡ spec.behind_number (number_at (most width) bytes.now at) }
+{
+    match number::pass(bytes, at, width) {
+        Ok(next) => Ok(next),
+        Err(f) => Err(fault(f.code(), at)),
+    }
+}
+
 // The number of 32 bits at a place.
-fn word_at(bytes: &[u8], at: usize) -> WordRead
+fn word_at(bytes: &[u8], at: usize) -> Result<Word, Refusal>
     ensures { result ≡ spec.word_read (number_at number.WORD bytes.now at) }
 {
-    if let Passed::Refused(code) = number::pass(bytes, at, WORD) {
-        return WordRead::Refused(fault(code, at));
-    }
+    pass(bytes, at, Width::Word)?;
     let n = number::read(bytes, at);
-    WordRead::Word(Word {
+    Ok(Word {
         value: n.value as u32,
         behind: n.behind,
     })
 }
 
 // Passes a row of numbers of some widths.
-fn pass_row(bytes: &[u8], at: usize, widths: &[u64]) -> Behind
-    requires { spec.sound widths.now ≡ true }
-    ensures { result ≡ spec.behind_row (right.row_at widths.now bytes.now at) }
+fn pass_row(bytes: &[u8], at: usize, widths: &[Width]) -> Result<usize, Refusal>
+    ensures { result ≡ spec.behind_row (right.row_at (spec.mosts widths.now) bytes.now at) }
 {
     let mut to = at;
-    let mut i = 0;
-    while i < widths.len() {
-        to = match number::pass(bytes, to, widths[i]) {
-            Passed::Refused(code) => return Behind::Refused(fault(code, to)),
-            Passed::To(next) => next,
-        };
-        i += 1;
+    for width in widths {
+        to = pass(bytes, to, *width)?;
     }
-    Behind::At(to)
+    Ok(to)
 }
 
 // Passes n such rows.
-fn pass_rows(bytes: &[u8], at: usize, widths: &[u64], n: u32) -> Behind
-    requires { spec.sound widths.now ≡ true }
-    ensures { result ≡ spec.behind_rows (right.rows_at n widths.now bytes.now at) }
+fn pass_rows(bytes: &[u8], at: usize, widths: &[Width], n: u32) -> Result<usize, Refusal>
+    ensures { result ≡ spec.behind_rows (right.rows_at n (spec.mosts widths.now) bytes.now at) }
 {
     let mut to = at;
-    let mut left = n;
-    while 0 < left {
-        to = match pass_row(bytes, to, widths) {
-            Behind::Refused(r) => return Behind::Refused(r),
-            Behind::At(next) => next,
-        };
-        left -= 1;
+    for i in 0..n {
+        to = pass_row(bytes, to, widths)?;
     }
-    Behind::At(to)
+    Ok(to)
 }
 
 // Passes a count and so many such rows behind it.
-fn pass_counted(bytes: &[u8], at: usize, widths: &[u64]) -> CountedRead
-    requires { spec.sound widths.now ≡ true }
-    ensures { result ≡ spec.counted_read (spec.counted_at widths.now bytes.now at) }
+fn pass_counted(bytes: &[u8], at: usize, widths: &[Width]) -> Result<Word, Refusal>
+    ensures { result ≡ spec.counted_read (spec.counted_at (spec.mosts widths.now) bytes.now at) }
 {
-    let count = match word_at(bytes, at) {
-        WordRead::Refused(r) => return CountedRead::Refused(r),
-        WordRead::Word(w) => w,
-    };
-    match pass_rows(bytes, count.behind, widths, count.value) {
-        Behind::Refused(r) => CountedRead::Refused(r),
-        Behind::At(behind) => CountedRead::Counted(Word {
-            value: count.value,
-            behind,
-        }),
-    }
+    let count = word_at(bytes, at)?;
+    let behind = pass_rows(bytes, count.behind, widths, count.value)?;
+    Ok(Word {
+        value: count.value,
+        behind,
+    })
 }
 
 // Tests the numbers of an index.
-fn check(bytes: &[u8]) -> Checked
+fn check(bytes: &[u8]) -> Result<Shape, Refusal>
     ensures { spec.Told bytes.now result }
 {
-    let edition = match word_at(bytes, 0) {
-        WordRead::Refused(r) => return Checked::Refused(r),
-        WordRead::Word(w) => w,
-    };
-    if edition.value != 1 {
-        return Checked::Refused(fault(17, 0));
+    let edition = word_at(bytes, 0)?;
+    if edition.value != EDITION {
+        return Err(fault(17, 0));
     }
-    let one = ONE;
-    let counts = match pass_counted(bytes, edition.behind, &one) {
-        CountedRead::Refused(r) => return Checked::Refused(r),
-        CountedRead::Counted(w) => w,
-    };
-    let entry = ENTRY;
-    let entries = match pass_counted(bytes, counts.behind, &entry) {
-        CountedRead::Refused(r) => return Checked::Refused(r),
-        CountedRead::Counted(w) => w,
-    };
-    Checked::Fine(Shape {
+    let counts = pass_counted(bytes, edition.behind, &ONE)?;
+    let entries = pass_counted(bytes, counts.behind, &ENTRY)?;
+    Ok(Shape {
         at: edition.behind,
         providers: counts.value,
         entries: entries.value,
@@ -198,13 +157,13 @@ fn check(bytes: &[u8]) -> Checked
 }
 
 // Gives a number's words: two for one of 64 bits, else one.
-fn give_number(words: &mut [u32], to: usize, width: u64, number: u64) -> usize
-    requires { spec.narrow width number × (to + length (right.number_words width number) ≤ length words.old) }
-    ensures value { result ≡ to + length (right.number_words width number) }
-    ensures words_after { words.new ≡ laid words.old to (right.number_words width number) }
+fn give_number(words: &mut [u32], to: usize, width: Width, number: u64) -> usize
+    requires { spec.narrow (most width) number × (to + length (right.number_words (most width) number) ≤ length words.old) }
+    ensures value { result ≡ to + length (right.number_words (most width) number) }
+    ensures words_after { words.new ≡ laid words.old to (right.number_words (most width) number) }
 {
     words[to] = (number % 4294967296) as u32;
-    if width == LONG {
+    if let Width::Long = width {
         words[to + 1] = (number / 4294967296) as u32;
         return to + 2;
     }
@@ -212,37 +171,36 @@ fn give_number(words: &mut [u32], to: usize, width: u64, number: u64) -> usize
 }
 
 // Gives the words of a row that was passed.
-fn give_row(bytes: &[u8], at: usize, widths: &[u64], words: &mut [u32], to: usize) -> Place
-    requires sound { spec.sound widths.now ≡ true }
-    requires row_stands { spec.RowStands widths.now bytes.now at to (length words.old) }
-    ensures { spec.RowGiven widths.now bytes.now at words.old to result words.new }
+fn give_row(bytes: &[u8], at: usize, widths: &[Width], words: &mut [u32], to: usize) -> Place
+    requires { spec.RowStands (spec.mosts widths.now) bytes.now at to (length words.old) }
+    ensures { spec.RowGiven (spec.mosts widths.now) bytes.now at words.old to result words.new }
 {
-    let mut place = at;
-    let mut next = to;
-    let mut i = 0;
-    while i < widths.len() {
-        let n = number::read(bytes, place);
-        next = give_number(words, next, widths[i], n.value);
-        place = n.behind;
-        i += 1;
+    let mut place = Place { at, to };
+    for width in widths {
+        let n = number::read(bytes, place.at);
+        place = Place {
+            at: n.behind,
+            to: give_number(words, place.to, *width, n.value),
+        };
     }
-    Place {
-        at: place,
-        to: next,
-    }
+    place
 }
 
 // Gives those of n such rows.
-fn give_rows(bytes: &[u8], at: usize, widths: &[u64], n: u32, words: &mut [u32], to: usize) -> Place
-    requires sound { spec.sound widths.now ≡ true }
-    requires rows_stand { spec.RowsStand n widths.now bytes.now at to (length words.old) }
-    ensures { spec.RowsGiven n widths.now bytes.now at words.old to result words.new }
+fn give_rows(
+    bytes: &[u8],
+    at: usize,
+    widths: &[Width],
+    n: u32,
+    words: &mut [u32],
+    to: usize,
+) -> Place
+    requires { spec.RowsStand n (spec.mosts widths.now) bytes.now at to (length words.old) }
+    ensures { spec.RowsGiven n (spec.mosts widths.now) bytes.now at words.old to result words.new }
 {
     let mut place = Place { at, to };
-    let mut left = n;
-    while 0 < left {
+    for i in 0..n {
         place = give_row(bytes, place.at, widths, words, place.to);
-        left -= 1;
     }
     place
 }
@@ -251,17 +209,15 @@ fn give_rows(bytes: &[u8], at: usize, widths: &[u64], n: u32, words: &mut [u32],
 fn give_counted(
     bytes: &[u8],
     at: usize,
-    widths: &[u64],
+    widths: &[Width],
     n: u32,
     words: &mut [u32],
     to: usize,
 ) -> Place
-    requires sound { spec.sound widths.now ≡ true }
-    requires counted_stands { spec.CountedStands n widths.now bytes.now at to (length words.old) }
-    ensures { spec.CountedGiven widths.now bytes.now at words.old to result words.new }
+    requires { spec.CountedStands n (spec.mosts widths.now) bytes.now at to (length words.old) }
+    ensures { spec.CountedGiven (spec.mosts widths.now) bytes.now at words.old to result words.new }
 {
-    let one = ONE;
-    let place = give_rows(bytes, at, &one, 1, words, to);
+    let place = give_rows(bytes, at, &ONE, 1, words, to);
     give_rows(bytes, place.at, widths, n, words, place.to)
 }
 
@@ -270,27 +226,22 @@ fn give(bytes: &[u8], words: &mut [u32], shape: Shape)
     requires { spec.Stands bytes.now shape (length words.old) }
     ensures { words.new ≡ laid words.old 0 (spec.words_of bytes.now) }
 {
-    let one = ONE;
-    let entry = ENTRY;
-    let place = give_counted(bytes, shape.at, &one, shape.providers, words, 0);
-    give_counted(bytes, place.at, &entry, shape.entries, words, place.to);
+    let place = give_counted(bytes, shape.at, &ONE, shape.providers, words, 0);
+    give_counted(bytes, place.at, &ENTRY, shape.entries, words, place.to);
 }
 
 // Reads an index: every number after the edition, into lent words.
-pub fn read(bytes: &[u8], words: &mut [u32]) -> IndexAnswer
+pub fn read(bytes: &[u8], words: &mut [u32]) -> Result<usize, Refusal>
     ensures { right.AllowedRead bytes.now words.old result words.new }
 {
-    let shape = match check(bytes) {
-        Checked::Refused(r) => return IndexAnswer::Refused(r),
-        Checked::Fine(s) => s,
-    };
+    let shape = check(bytes)?;
     let needed = 2 + (shape.providers as usize) + 10 * (shape.entries as usize);
     if shape.end != bytes.len() {
-        return IndexAnswer::Refused(fault(18, shape.end));
+        return Err(fault(18, shape.end));
     }
     if words.len() < needed {
-        return IndexAnswer::Refused(short(words.len()));
+        return Err(short(words.len()));
     }
     give(bytes, words, shape);
-    IndexAnswer::Given(needed)
+    Ok(needed)
 }

@@ -1,5 +1,5 @@
 -- The writing of an index, by what was tested.
-use Rattle.std.specs.Prelude.{ℕ, ◌≡◌, Bool, true, false, ◌&&◌, List, map, take}
+use Rattle.std.specs.Prelude.{ℕ, ◌≡◌, Bool, true, false, ◌&&◌, List, map, take, Err}
 use Rattle.std.proofs.Common.{ap, sym, ◌∙◌, arith}
 use Rattle.blob.specs.Reading.{Outcome, refused}
 use Rattle.blob.specs.declared.Refusal.{Refusal}
@@ -12,7 +12,6 @@ use Rattle.lists.specs.Entries.{entries-length}
 use Rattle.lists.specs.Fit.{refused_as, refused-further, inside}
 use Rattle.lists.specs.Found.{tables_hold, fit_together, Fit}
 use Rattle.lists.specs.Owners.{Owns}
-use Rattle.index.specs.declared.IndexAnswer.TheVariants as answers
 use Rattle.index.specs.Index.{entry_of, written, with_room, index_of, together, writing, given, held}
 use Rattle.indexer.specs.Listed.{unknown2s, all_fit, resolved, index_by}
 use Rattle.indexer.specs.Resolved.{found-listed}
@@ -51,5 +50,5 @@ module _ (words capacities counts : List ℕ) (f : Fit words capacities counts) 
       (omega (arith, n, (h e).0, (inside words capacities counts f (place EVENTS)).1)) (λ j a b. (h e).1 j (omega (arith, n, b))))
 
 -- a refusal keeps the lent bytes
-pub refusal-keeps : (lent : List ℕ) (o : Outcome (List ℕ)) (q r : Refusal) → q ≡ r → o ≡ refused r → (answers.Refused q ≡ given o) × (lent ≡ held lent o)
-refusal-keeps lent o q r e x = (ap answers.Refused e ∙ ap given (sym x), ap (held lent) (sym x))
+pub refusal-keeps : (lent : List ℕ) (o : Outcome (List ℕ)) (q r : Refusal) → q ≡ r → o ≡ refused r → (Err q ≡ given o) × (lent ≡ held lent o)
+refusal-keeps lent o q r e x = (ap Err e ∙ ap given (sym x), ap (held lent) (sym x))

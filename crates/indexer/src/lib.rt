@@ -12,11 +12,10 @@ ghost use Rattle.lists.specs.Owners as owners;
 ghost use Rattle.index.specs.Index as right;
 ghost use Rattle.indexer.specs.Listed as spec;
 
-use blob::Verdict;
+use blob::{Refusal, Verdict};
 use format::entry::EVENT_TEMPLATE;
 use format::kind;
 use format::list::{AREAS, row, width};
-use index::IndexAnswer;
 use lists::{Found, NOBODY, Run};
 
 // The widths of an event's fields, each by the largest number that has it.
@@ -400,17 +399,17 @@ fn give(
     counts: [u32; AREAS],
     owners: &[u32; 65536],
     bytes: &mut [u8],
-) -> IndexAnswer
+) -> Result<usize, Refusal>
     requires { lists.Fit words.now capacities counts }
     ensures value { result ≡ right.given (right.with_room bytes.old (right.written (spec.index_by words.now capacities counts owners.now))) }
     ensures bytes_after { bytes.new ≡ right.held bytes.old (right.with_room bytes.old (right.written (spec.index_by words.now capacities counts owners.now))) }
 {
     let whole = size_index(words, capacities, counts, owners);
     if bytes.len() < whole.bytes {
-        return IndexAnswer::Refused(index::short(bytes.len()));
+        return Err(index::short(bytes.len()));
     }
     put_index(words, capacities, counts, owners, whole.entries, bytes);
-    IndexAnswer::Given(whole.bytes)
+    Ok(whole.bytes)
 }
 
 // Writes the index of the lists of a reading: 8 and 10 as a lookup by key gives them, 10 for an event of no provider or of two or with a
@@ -420,19 +419,19 @@ pub fn write(
     capacities: [u32; AREAS],
     counts: [u32; AREAS],
     bytes: &mut [u8],
-) -> IndexAnswer
+) -> Result<usize, Refusal>
     ensures { right.AllowedWrite words.now capacities counts bytes.old result bytes.new }
 {
     if let Verdict::Refused(r) = lists::fit_together(words, capacities, counts) {
-        return IndexAnswer::Refused(r);
+        return Err(r);
     }
     let mut owners = [NOBODY; 65536];
     if !lists::owners(words, capacities, counts, &mut owners) {
-        return IndexAnswer::Refused(bounds::own(10));
+        return Err(bounds::own(10));
     }
     let events = lists::run_of(capacities, counts, row::EVENTS);
     if !all_fit(words, events.start, events.count) {
-        return IndexAnswer::Refused(bounds::own(10));
+        return Err(bounds::own(10));
     }
     resolve(words, capacities, counts, &mut owners);
     give(words, capacities, counts, &owners, bytes)

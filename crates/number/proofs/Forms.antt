@@ -1,10 +1,11 @@
 -- What holds of the coder: each number below 2⁶⁴ has a form; what is written reads back, whatever follows; no two byte strings read as the
 -- same number.
-use Rattle.std.specs.Prelude.{ℕ, zero, suc, ◌+◌, ◌*◌, ◌/◌, ◌%◌, ◌≤◌, ◌<◌, ◌≡◌, refl, Bool, true, false, ◌||◌, List, [], ◌∷◌, ◌++◌, length, drop, ltb, eqb}
+use Rattle.std.specs.Prelude.{ℕ, zero, suc, ◌+◌, ◌*◌, ◌/◌, ◌%◌, ◌≤◌, ◌<◌, ◌≡◌, refl, Bool, true, false, ◌||◌, List, [], ◌∷◌, ◌++◌, length, drop, set, ltb, eqb}
 use Rattle.std.proofs.Common.{ap, ap₂, sym, ◌∙◌, append-nil, arith, drop-drop, ltb-true, ltb-false, le-ltb, lt-ltb, ne_eqb}
 use Rattle.std.proofs.Math.Seq.{drop-append_seam, drop-length}
 use Rattle.blob.specs.Reading.{done, choose}
 use Rattle.blob.specs.Places.{Each}
+use Rattle.blob.specs.Laid.{laid}
 use Rattle.number.specs.Number.{LONGEST, LONG, form_of, form, upto, ended, value, last_or, padded, number_at}
 use Rattle.number.specs.Scan.{number_of}
 use Rattle.number.proofs.Scan.{untrue, alone, lasting, slimmer, was_read, is_read}
@@ -164,6 +165,53 @@ left-more n bs l h = go l.most l.ends l.formed
           sym f ∙ rw q,
           record { most = k; ends = rw (q, le-ltb (128 + n % 128) 128 (omega arith)) at e; formed = refl },
         )
+
+-- What is left of a number's bytes, where so many with the next one were counted.
+pub record Sizing (number rest n : ℕ) : Type 0 where
+  pub bytes : List ℕ
+  pub left : Left rest bytes
+  pub counted : n + length bytes ≡ length (form number) + 1
+
+pub sizing_all : (n : ℕ) → n ≤ LONG → Sizing n n 1
+sizing_all n h = record { bytes = form n; left = left-all n h; counted = omega arith }
+
+module _ {number rest n : ℕ} (h : Sizing number rest n) where
+  pub sizing_ends : rest < 128 → n ≡ length (form number)
+  sizing_ends l = let e = ap length (left-last _ _ h.left l) in let k = h.counted in omega (arith, e, k)
+
+  pub sizing_goes : 128 ≤ rest → Sizing number (rest / 128) (n + 1)
+  sizing_goes l =
+      let m = left-more _ _ h.left l in
+      let e = ap length m.1 in
+      let k = h.counted in
+      record { bytes = m.0; left = m.2; counted = omega (arith, e, k) }
+
+-- What is left to store of them: laid from here, it makes the whole.
+pub record Storing (lent : List ℕ) (at number rest : ℕ) (now : List ℕ) (i : ℕ) : Type 0 where
+  pub bytes : List ℕ
+  pub left : Left rest bytes
+  pub ends : i + length bytes ≡ at + length (form number)
+  pub whole : laid now i bytes ≡ laid lent at (form number)
+
+pub storing_all : (lent : List ℕ) (at n : ℕ) → n ≤ LONG → Storing lent at n n lent at
+storing_all lent at n h = record { bytes = form n; left = left-all n h; ends = refl; whole = refl }
+
+module _ {lent : List ℕ} {at number rest : ℕ} {now : List ℕ} {i : ℕ} (h : Storing lent at number rest now i) where
+  pub storing_ends : rest < 128 → (i + 1 ≡ at + length (form number)) × (set now i rest ≡ laid lent at (form number))
+  unfolding laid
+  storing_ends l =
+      let b = left-last _ _ h.left l in
+      let e = ap length b in
+      let k = h.ends in
+      (omega (arith, e, k), sym (ap (laid now i) b) ∙ h.whole)
+
+  pub storing_goes : 128 ≤ rest → (i + 1 ≤ at + length (form number)) × Storing lent at number (rest / 128) (set now i (128 + rest % 128)) (i + 1)
+  unfolding laid
+  storing_goes l =
+      let m = left-more _ _ h.left l in
+      let e = ap length m.1 in
+      let k = h.ends in
+      (omega (arith, e, k), record { bytes = m.0; left = m.2; ends = omega (arith, e, k); whole = sym (ap (laid now i) m.1) ∙ h.whole })
 
 -- no form is longer than ten bytes
 pub form-short : (k n : ℕ) → length (form_of k n) ≤ k

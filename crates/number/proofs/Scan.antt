@@ -1,6 +1,6 @@
 -- What holds of the code's way through a number: byte by byte, what is left decides.
 use Prim.Native.Nat.{ℕ, zero, suc, ◌+◌, ◌-◌, ◌*◌, ◌/◌, ◌%◌, ◌≤◌, ◌<◌}
-use Rattle.std.specs.Prelude.{◌≡◌, Bool, not, ◌&&◌, ◌||◌, length, eqb}
+use Rattle.std.specs.Prelude.{◌≡◌, Bool, not, ◌&&◌, ◌||◌, length, eqb, Result, Ok, Err}
 use Rattle.std.proofs.Math.Path.{refl, sym}
 use Rattle.std.proofs.Common.{ap, ap₂, ◌∙◌, subst, mul_comm, mul_assoc, mul-add, mul-le-mul_left, arith, length-drop, drop_of_length-le, drop-cons}
 use Rattle.std.proofs.Math.Bool.{true, false}
@@ -11,12 +11,14 @@ use Rattle.std.proofs.Math.ListN.{get_or, drop}
 use Rattle.std.proofs.Math.Dec.{leb, ltb, eqb-suc-suc, eqb-zero-suc}
 use borrow.Author.Tests.{le-leb, lt-leb, leb-true, leb-false, ltb-true, lt-ltb, le-ltb, eqb-true, eqb-false, ne_eqb, eq-eqb, not-true}
 use Rattle.blob.specs.Reading.{Outcome, done, refused, choose}
-use Rattle.blob.proofs.Laws.{both, same, choose-done}
+use Rattle.blob.proofs.Laws.{both, same, choose-done, fine-value}
 use Rattle.number.specs.Number.{LONGEST, LONG, upto, ended, value, last_or, padded, fault, number_at}
 use Rattle.number.specs.declared.Number.{Number}
-use Rattle.number.specs.declared.Passed.{Passed}
-use Rattle.number.specs.declared.Passed.TheVariants as to
-use Rattle.number.specs.Scan.{passed, ones, last, scan, Rest, number_of, Read}
+use Rattle.number.specs.declared.Width.{Width}
+use Rattle.number.specs.declared.Width.TheVariants.{Byte, Half, Word, Long}
+use Rattle.number.specs.declared.Fault.{Fault}
+use Rattle.number.specs.declared.Fault.TheVariants.{Cut, Wrong}
+use Rattle.number.specs.Scan.{most, code, coded, passed, ones, last, scan, Rest, Stands, number_of, Read}
 
 pub untrue : {A : Type 0} → false ≡ true → A
 untrue e = absurd (let z : ◌≡◌ {A = ℕ} 0 1 = cc in omega arith)
@@ -64,13 +66,13 @@ ones-less (suc k) m o = go (ltb m 128) refl o
     go false t o = (both (eqb (m % 128) 127) _ o).1
 
 -- what is found of the bytes that are left, of at most so many
-abbrev judged : (k limit i d : ℕ) → List ℕ → Passed
-judged k limit i d t = choose (ended t) (choose (leb (value t) limit && not (eqb (last_or d t) 0)) (to.To (i + length t)) (to.Refused 16)) (to.Refused (choose (eqb (length t) k) 16 15))
+abbrev judged : (k limit i d : ℕ) → List ℕ → Result ℕ Fault
+judged k limit i d t = choose (ended t) (choose (leb (value t) limit && not (eqb (last_or d t) 0)) (Ok (i + length t)) (Err Wrong)) (Err (choose (eqb (length t) k) Wrong Cut))
 
 -- the same with one more byte before them, whose high bit is set
-abbrev judged_behind : (k limit i d b : ℕ) → List ℕ → Passed
+abbrev judged_behind : (k limit i d b : ℕ) → List ℕ → Result ℕ Fault
 judged_behind k limit i d b t =
-    choose (ended t) (choose (leb (b % 128 + 128 * value t) limit && not (eqb (last_or d t) 0)) (to.To (i + suc (length t))) (to.Refused 16)) (to.Refused (choose (eqb (suc (length t)) (suc k)) 16 15))
+    choose (ended t) (choose (leb (b % 128 + 128 * value t) limit && not (eqb (last_or d t) 0)) (Ok (i + suc (length t))) (Err Wrong)) (Err (choose (eqb (suc (length t)) (suc k)) Wrong Cut))
 
 one_more : (k m i d b : ℕ) (bs : List ℕ) → ones (suc k) m ≡ true → judged k (m / 128) (i + 1) d (upto k bs) ≡ judged_behind k m i d b (upto k bs)
 one_more k m i d b bs o = go (ended (upto k bs)) refl (eqb (last_or d (upto k bs)) 0) refl
@@ -79,8 +81,8 @@ one_more k m i d b bs o = go (ended (upto k bs)) refl (eqb (last_or d (upto k bs
     t = upto k bs
 
     go : (e : Bool) → ended t ≡ e → (z : Bool) → eqb (last_or d t) 0 ≡ z
-        → choose e (choose (leb (value t) (m / 128) && not z) (to.To (i + 1 + length t)) (to.Refused 16)) (to.Refused (choose (eqb (length t) k) 16 15))
-        ≡ choose e (choose (leb (b % 128 + 128 * value t) m && not z) (to.To (i + suc (length t))) (to.Refused 16)) (to.Refused (choose (eqb (suc (length t)) (suc k)) 16 15))
+        → choose e (choose (leb (value t) (m / 128) && not z) (Ok (i + 1 + length t)) (Err Wrong)) (Err (choose (eqb (length t) k) Wrong Cut))
+        ≡ choose e (choose (leb (b % 128 + 128 * value t) m && not z) (Ok (i + suc (length t))) (Err Wrong)) (Err (choose (eqb (suc (length t)) (suc k)) Wrong Cut))
     go true e true z = rw (and_false (leb (value t) (m / 128)), and_false (leb (b % 128 + 128 * value t) m))
       where
         and_false : (a : Bool) → (a && false) ≡ false
@@ -105,8 +107,8 @@ scanned (suc k) m at i d (b ∷ bs) o h =
     go (ltb b 128) refl (scanned k (m / 128) at (i + 1) b bs (ones-less k m o) (omega arith) ∙ one_more k m i b b bs o)
   where
     go : (t : Bool) → ltb b 128 ≡ t → scan at k (m / 128) (i + 1) bs ≡ judged_behind k m i b b (upto k bs)
-        → choose t (choose (last b m (eqb i at)) (to.To (i + 1)) (to.Refused 16)) (scan at k (m / 128) (i + 1) bs) ≡ (let w = choose t [] (upto k bs) in
-        choose (t || ended w) (choose (leb (b % 128 + 128 * value w) m && not (eqb (last_or b w) 0)) (to.To (i + suc (length w))) (to.Refused 16)) (to.Refused (choose (eqb (suc (length w)) (suc k)) 16 15)))
+        → choose t (choose (last b m (eqb i at)) (Ok (i + 1)) (Err Wrong)) (scan at k (m / 128) (i + 1) bs) ≡ (let w = choose t [] (upto k bs) in
+        choose (t || ended w) (choose (leb (b % 128 + 128 * value w) m && not (eqb (last_or b w) 0)) (Ok (i + suc (length w))) (Err Wrong)) (Err (choose (eqb (suc (length w)) (suc k)) Wrong Cut)))
     go true t ih = rw (alone b t, ne_eqb i at (λ e. omega arith))
     go false t ih = ih
 
@@ -117,10 +119,14 @@ scans m bytes at o = from (drop at bytes)
   where
     shown : (e p : Bool) (v n : ℕ)
         → passed (choose e (choose p (done (record { value = v; behind = at + n })) (refused (fault 16 at))) (refused (fault (choose (eqb n LONGEST) 16 15) at)))
-        ≡ choose e (choose p (to.To (at + n)) (to.Refused 16)) (to.Refused (choose (eqb n LONGEST) 16 15))
+        ≡ choose e (choose p (Ok (at + n)) (Err Wrong)) (Err (choose (eqb n LONGEST) Wrong Cut))
     shown true true v n = refl
     shown true false v n = refl
-    shown false p v n = refl
+    shown false p v n = named (eqb n LONGEST)
+      where
+        named : (b : Bool) → passed (refused (fault (choose b 16 15) at)) ≡ Err (choose b Wrong Cut)
+        named true = refl
+        named false = refl
 
     from : (l : List ℕ) → (let bs = upto LONGEST l in
         passed (choose (ended bs) (choose (leb (value bs) m && not (padded bs)) (done (record { value = value bs; behind = at + length bs })) (refused (fault 16 at)))
@@ -131,40 +137,40 @@ scans m bytes at o = from (drop at bytes)
         ∙ sym (go (ltb b 128) refl (scanned 9 (m / 128) at (at + 1) 1 bs (ones-less 9 m o) (omega arith) ∙ one_more 9 m at 1 b bs o))
       where
         go : (t : Bool) → ltb b 128 ≡ t → scan at 9 (m / 128) (at + 1) bs ≡ judged_behind 9 m at 1 b (upto 9 bs)
-            → choose t (choose (last b m (eqb at at)) (to.To (at + 1)) (to.Refused 16)) (scan at 9 (m / 128) (at + 1) bs) ≡ (let w = choose t [] (upto 9 bs) in
-            choose (t || ended w) (choose (leb (b % 128 + 128 * value w) m && not (eqb (last_or 1 w) 0)) (to.To (at + suc (length w))) (to.Refused 16)) (to.Refused (choose (eqb (suc (length w)) 10) 16 15)))
+            → choose t (choose (last b m (eqb at at)) (Ok (at + 1)) (Err Wrong)) (scan at 9 (m / 128) (at + 1) bs) ≡ (let w = choose t [] (upto 9 bs) in
+            choose (t || ended w) (choose (leb (b % 128 + 128 * value w) m && not (eqb (last_or 1 w) 0)) (Ok (at + suc (length w))) (Err Wrong)) (Err (choose (eqb (suc (length w)) 10) Wrong Cut)))
         go true t ih = rw (alone b t, eq-eqb at at refl)
         go false t ih = ih
 
 -- no byte may follow, none does, one that ends the number, one that doesn't
 module _ (bytes : List ℕ) (at left limit i : ℕ) where
-  pub scan-over : left ≤ 0 → scan at left limit i (drop i bytes) ≡ to.Refused 16
+  pub scan-over : left ≤ 0 → scan at left limit i (drop i bytes) ≡ Err Wrong
   unfolding scan
   scan-over h = go left h
     where
-      go : (k : ℕ) → k ≤ 0 → scan at k limit i (drop i bytes) ≡ to.Refused 16
+      go : (k : ℕ) → k ≤ 0 → scan at k limit i (drop i bytes) ≡ Err Wrong
       go zero h = refl
       go (suc k) h = absurd (omega arith)
 
-  pub scan-out : 0 < left → length bytes ≤ i → scan at left limit i (drop i bytes) ≡ to.Refused 15
+  pub scan-out : 0 < left → length bytes ≤ i → scan at left limit i (drop i bytes) ≡ Err Cut
   unfolding scan
   scan-out h g = rw (drop_of_length-le bytes g) (go left h)
     where
-      go : (k : ℕ) → 0 < k → scan at k limit i [] ≡ to.Refused 15
+      go : (k : ℕ) → 0 < k → scan at k limit i [] ≡ Err Cut
       go zero h = absurd (omega arith)
       go (suc k) h = refl
 
   scan-byte : 0 < left → i < length bytes
-      → scan at left limit i (drop i bytes) ≡ (let b = get_or bytes i 0 in choose (ltb b 128) (choose (last b limit (eqb i at)) (to.To (i + 1)) (to.Refused 16)) (scan at (left - 1) (limit / 128) (i + 1) (drop (i + 1) bytes)))
+      → scan at left limit i (drop i bytes) ≡ (let b = get_or bytes i 0 in choose (ltb b 128) (choose (last b limit (eqb i at)) (Ok (i + 1)) (Err Wrong)) (scan at (left - 1) (limit / 128) (i + 1) (drop (i + 1) bytes)))
   unfolding scan
   scan-byte h g = rw (drop-cons bytes i 0 g) (go left h)
     where
       go : (k : ℕ) → 0 < k → scan at k limit i (get_or bytes i 0 ∷ drop (suc i) bytes)
-          ≡ (let b = get_or bytes i 0 in choose (ltb b 128) (choose (last b limit (eqb i at)) (to.To (i + 1)) (to.Refused 16)) (scan at (k - 1) (limit / 128) (i + 1) (drop (i + 1) bytes)))
+          ≡ (let b = get_or bytes i 0 in choose (ltb b 128) (choose (last b limit (eqb i at)) (Ok (i + 1)) (Err Wrong)) (scan at (k - 1) (limit / 128) (i + 1) (drop (i + 1) bytes)))
       go zero h = absurd (omega arith)
       go (suc k) h = rw (suc-sub-suc k 0, sub-zero k, add-one i)
 
-  pub scan-last : 0 < left → i < length bytes → get_or bytes i 0 < 128 → scan at left limit i (drop i bytes) ≡ choose (last (get_or bytes i 0) limit (eqb i at)) (to.To (i + 1)) (to.Refused 16)
+  pub scan-last : 0 < left → i < length bytes → get_or bytes i 0 < 128 → scan at left limit i (drop i bytes) ≡ choose (last (get_or bytes i 0) limit (eqb i at)) (Ok (i + 1)) (Err Wrong)
   scan-last h g b = scan-byte h g ∙ rw (lt-ltb _ _ b)
 
   pub scan-more : 0 < left → i < length bytes → 128 ≤ get_or bytes i 0 → scan at left limit i (drop i bytes) ≡ scan at (left - 1) (limit / 128) (i + 1) (drop (i + 1) bytes)
@@ -271,23 +277,73 @@ read_fits m bytes at n e = let r = was_read m bytes at n e in rw r.shown r.fits
 pub wider : (m k : ℕ) (bytes : List ℕ) (at : ℕ) (n : Number) → m ≤ k → number_at m bytes at ≡ done n → number_at k bytes at ≡ done n
 wider m k bytes at n h e = let r = was_read m bytes at n e in is_read k bytes at n record { ends = r.ends; slim = r.slim; fits = let f = r.fits in omega (arith, f); shown = r.shown }
 
+-- A number that stands at a place, where the bytes before one of its own were read: these said so much, and those from it on say what is
+-- missing, times a scale.
+pub record Reading (bytes : List ℕ) (at i v scale : ℕ) : Type 0 where
+  pub number : Number
+  pub found : number_at LONG bytes at ≡ done number
+  pub rest : Rest (drop i bytes) i v scale number.value number.behind
+  pub scaled : 1 ≤ scale
+
+pub reading_all : (bytes : List ℕ) (at : ℕ) → Stands bytes at → Reading bytes at at 0 1
+reading_all bytes at s = let n = fine-value _ s in record { number = n.0; found = n.1; rest = rest_all _ _ _ n.1; scaled = omega arith }
+
+-- a byte is left; the last one; one with others behind it
+module _ {bytes : List ℕ} {at i v scale : ℕ} (h : Reading bytes at i v scale) where
+  pub reading_some : i < length bytes
+  reading_some = byte_left bytes i v scale _ _ h.rest
+
+  pub reading_ends : get_or bytes i 0 < 128
+      → (v + get_or bytes i 0 * scale ≤ LONG) × (number_at LONG bytes at ≡ done (record { value = v + get_or bytes i 0 * scale; behind = i + 1 }))
+  reading_ends b =
+      let e = byte-ends bytes i v scale _ _ h.rest b in
+      let f = read_fits LONG bytes at h.number h.found in
+      (omega (arith, e.0, f), h.found ∙ ap₂ (λ v b. done record { value = v; behind = b }) (sym e.0) (sym e.1))
+
+  pub reading_goes : 128 ≤ get_or bytes i 0
+      → (v + get_or bytes i 0 % 128 * scale ≤ LONG) × (scale * 128 ≤ LONG) × Reading bytes at (i + 1) (v + get_or bytes i 0 % 128 * scale) (scale * 128)
+  reading_goes b =
+      let g = byte-goes bytes i v scale _ _ h.rest b h.scaled in
+      let f = read_fits LONG bytes at h.number h.found in
+      let s = h.scaled in
+      (omega (arith, g.1, f), omega (arith, g.2, f), record { number = h.number; found = h.found; rest = g.0; scaled = omega (arith, s) })
+
 -- what passing a number tells of it
-pub passed_to : (m : ℕ) (bytes : List ℕ) (at next : ℕ) → to.To next ≡ passed (number_at m bytes at) → (n : Number) × (number_at m bytes at ≡ done n) × (n.behind ≡ next)
+pub passed_to : (m : ℕ) (bytes : List ℕ) (at next : ℕ) → Ok next ≡ passed (number_at m bytes at) → (n : Number) × (number_at m bytes at ≡ done n) × (n.behind ≡ next)
 passed_to m bytes at next e = go (number_at m bytes at) refl e
   where
-    go : (o : Outcome Number) → number_at m bytes at ≡ o → to.To next ≡ passed o → (n : Number) × (number_at m bytes at ≡ done n) × (n.behind ≡ next)
+    go : (o : Outcome Number) → number_at m bytes at ≡ o → Ok next ≡ passed o → (n : Number) × (number_at m bytes at ≡ done n) × (n.behind ≡ next)
     go (done n) o e = (n, o, cc)
     go (refused r) o e = absurd (let z : ◌≡◌ {A = ℕ} 0 1 = cc in omega arith)
 
-pub passed-not : (m : ℕ) (bytes : List ℕ) (at code : ℕ) → to.Refused code ≡ passed (number_at m bytes at) → number_at m bytes at ≡ refused (fault code at)
+pub passed-not : (m : ℕ) (bytes : List ℕ) (at : ℕ) (f : Fault) → Err f ≡ passed (number_at m bytes at) → number_at m bytes at ≡ refused (fault (code f) at)
 unfolding number_at
-passed-not m bytes at code e = go (ended (number_of bytes at)) (leb (value (number_of bytes at)) m && not (padded (number_of bytes at))) (choose (eqb (length (number_of bytes at)) LONGEST) 16 15) e
+passed-not m bytes at f e = go (ended (number_of bytes at)) (leb (value (number_of bytes at)) m && not (padded (number_of bytes at))) (eqb (length (number_of bytes at)) LONGEST) e
   where
     n : Number
     n = record { value = value (number_of bytes at); behind = at + length (number_of bytes at) }
 
-    go : (s t : Bool) (c : ℕ) → to.Refused code ≡ passed (choose s (choose t (done n) (refused (fault 16 at))) (refused (fault c at)))
-        → choose s (choose t (done n) (refused (fault 16 at))) (refused (fault c at)) ≡ refused (fault code at)
-    go true true c e = absurd (let z : ◌≡◌ {A = ℕ} 0 1 = cc in omega arith)
-    go true false c e = ap (λ c. refused (fault c at)) cc
-    go false t c e = ap (λ c. refused (fault c at)) cc
+    as_coded : (c : ℕ) → code (coded c) ≡ c → Err f ≡ passed (refused (fault c at))
+        → ◌≡◌ {A = Outcome Number} (refused (fault c at)) (refused (fault (code f) at))
+    as_coded c h e = let g : f ≡ coded c = cc in ap (λ c. refused (fault c at)) (sym (ap code g ∙ h))
+
+    go : (s t b : Bool) → Err f ≡ passed (choose s (choose t (done n) (refused (fault 16 at))) (refused (fault (choose b 16 15) at)))
+        → choose s (choose t (done n) (refused (fault 16 at))) (refused (fault (choose b 16 15) at)) ≡ refused (fault (code f) at)
+    go true true b e = absurd (let z : ◌≡◌ {A = ℕ} 0 1 = cc in omega arith)
+    go true false b e = as_coded 16 refl e
+    go false t true e = as_coded 16 refl e
+    go false t false e = as_coded 15 refl e
+
+-- the widths' largest numbers have only ones, and none is past 64 bits
+pub most-ones : (w : Width) → ones LONGEST (most w) ≡ true
+unfolding ones
+most-ones Byte = refl
+most-ones Half = refl
+most-ones Word = refl
+most-ones Long = refl
+
+pub most-long : (w : Width) → most w ≤ LONG
+most-long Byte = omega arith
+most-long Half = omega arith
+most-long Word = omega arith
+most-long Long = omega arith

@@ -1,19 +1,36 @@
 -- The code's way through a number: byte by byte, what is left decides.
 use Prim.Native.Nat.{ℕ, zero, suc, ◌+◌, ◌*◌, ◌/◌, ◌%◌, ◌≤◌}
-use Rattle.std.specs.Prelude.{◌≡◌, Bool, not, ◌&&◌, ◌||◌, length, eqb}
+use Rattle.std.specs.Prelude.{◌≡◌, Bool, not, ◌&&◌, ◌||◌, length, eqb, Result, Ok, Err}
 use Rattle.std.proofs.Math.Bool.{true, false}
 use mathlib.Core.List.{List, [], ◌∷◌}
 use Rattle.std.proofs.Math.ListN.{drop}
 use Rattle.std.proofs.Math.Dec.{leb, ltb}
 use Rattle.blob.specs.Reading.{Outcome, choose, answer, verdict}
 use Rattle.blob.specs.declared.Verdict.TheVariants as verdicts
-use Rattle.number.specs.Number.{LONGEST, LONG, upto, ended, value, padded, number_at}
+use Rattle.number.specs.Number.{LONGEST, BYTE, HALF, WORD, LONG, upto, ended, value, padded, number_at}
 use Rattle.number.specs.declared.Number.{Number}
-use Rattle.number.specs.declared.Passed.{Passed}
-use Rattle.number.specs.declared.Passed.TheVariants as to
+use Rattle.number.specs.declared.Width.{Width}
+use Rattle.number.specs.declared.Width.TheVariants.{Byte, Half, Word, Long}
+use Rattle.number.specs.declared.Fault.{Fault}
+use Rattle.number.specs.declared.Fault.TheVariants.{Cut, Wrong}
 
-abbrev pub passed : Outcome Number → Passed
-passed o = answer (λ n. to.To n.behind) (λ r. to.Refused r.code) o
+-- the largest number that has a width
+abbrev pub most : Width → ℕ
+most Byte = BYTE
+most Half = HALF
+most Word = WORD
+most Long = LONG
+
+abbrev pub code : Fault → ℕ
+code Cut = 15
+code Wrong = 16
+
+-- the fault with a code
+abbrev pub coded : ℕ → Fault
+coded c = choose (eqb c 15) Cut Wrong
+
+abbrev pub passed : Outcome Number → Result ℕ Fault
+passed o = answer (λ n. Ok n.behind) (λ r. Err (coded r.code)) o
 
 -- the widths' largest numbers have only ones
 unfoldable pub ones : ℕ → ℕ → Bool
@@ -25,11 +42,11 @@ abbrev pub last : ℕ → ℕ → Bool → Bool
 last byte limit first = leb byte limit && (first || not (eqb byte 0))
 
 -- what is found from a byte of a number on, with what its width leaves for the bytes from there on
-unfoldable pub scan : (at left limit i : ℕ) → List ℕ → Passed
-scan at zero limit i bs = to.Refused 16
-scan at (suc k) limit i [] = to.Refused 15
+unfoldable pub scan : (at left limit i : ℕ) → List ℕ → Result ℕ Fault
+scan at zero limit i bs = Err Wrong
+scan at (suc k) limit i [] = Err Cut
 scan at (suc k) limit i (b ∷ bs) =
-    choose (ltb b 128) (choose (last b limit (eqb i at)) (to.To (i + 1)) (to.Refused 16)) (scan at k (limit / 128) (i + 1) bs)
+    choose (ltb b 128) (choose (last b limit (eqb i at)) (Ok (i + 1)) (Err Wrong)) (scan at k (limit / 128) (i + 1) bs)
 
 -- a number stands at a place
 abbrev pub Stands : List ℕ → ℕ → Type 0

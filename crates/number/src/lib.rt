@@ -1,23 +1,56 @@
-// Numbers in seven-bit groups: one coder for all widths. A width is given as the largest number that has it.
+// Numbers in seven-bit groups: one coder for all widths.
 #![tactic(auto)]
 
-ghost use Rattle.std.specs.Prelude.{◌≡◌, true, ◌+◌, ◌≤◌, length};
-ghost use Rattle.blob.specs.Reading.{answer, done};
+ghost use Rattle.std.specs.Prelude.{◌≡◌, ◌+◌, ◌≤◌, length};
+ghost use Rattle.blob.specs.Reading.{done};
 ghost use Rattle.blob.specs.Laid.{laid};
 ghost use Rattle.number.specs.Number as right;
 ghost use Rattle.number.specs.Scan as spec;
 
-// The widths.
-pub const BYTE: u64 = 255;
-
-pub const HALF: u64 = 65535;
-
-pub const WORD: u64 = 4294967295;
-
-pub const LONG: u64 = 18446744073709551615;
-
 // The most bytes that a number has.
-const LONGEST: u32 = 10;
+const LONGEST: usize = 10;
+
+// How wide a number is: 8, 16, 32 or 64 bits.
+#[derive(Clone, Copy)]
+pub enum Width {
+    Byte,
+    Half,
+    Word,
+    Long,
+}
+
+impl Width {
+    // The largest number that has it.
+    pub fn most(self) -> u64
+        ensures { result ≡ spec.most self }
+    {
+        match self {
+            Width::Byte => 255,
+            Width::Half => 65535,
+            Width::Word => 4294967295,
+            Width::Long => 18446744073709551615,
+        }
+    }
+}
+
+// Why no number stands at a place: the bytes run out before its last one, or it is longer than shortest or past its width.
+#[derive(Clone, Copy)]
+pub enum Fault {
+    Cut,
+    Wrong,
+}
+
+impl Fault {
+    // The code that it is refused with.
+    pub fn code(self) -> u8
+        ensures { result ≡ spec.code self }
+    {
+        match self {
+            Fault::Cut => 15,
+            Fault::Wrong => 16,
+        }
+    }
+}
 
 // A number, and the place behind it.
 #[derive(Clone, Copy)]
@@ -26,51 +59,34 @@ pub struct Number {
     pub behind: usize,
 }
 
-// The place behind a number, or the code that it is refused with.
-#[derive(Clone, Copy)]
-pub enum Passed {
-    To(usize),
-    Refused(u8),
-}
-
 // Whether a last byte is one: not past what its width leaves for it, and not zero behind others.
 fn last(byte: u8, limit: u64, first: bool) -> bool
     ensures { result ≡ spec.last byte limit first }
 {
-    if limit < (byte as u64) {
-        return false;
-    }
-    if first {
-        return true;
-    }
-    byte != 0
+    u64::from(byte) <= limit && (first || byte != 0)
 }
 
-// Passes the number at a place, if it is one of a width. No value is worked out: the groups before the last can't take it past a width
-// of ones only.
-pub fn pass(bytes: &[u8], at: usize, most: u64) -> Passed
-    requires { spec.ones right.LONGEST most ≡ true }
-    ensures { result ≡ spec.passed (right.number_at most bytes.now at) }
+// The place behind the number at a place, if it is one of a width. No value is worked out: the groups before the last can't take it past
+// a width of ones only.
+pub fn pass(bytes: &[u8], at: usize, width: Width) -> Result<usize, Fault>
+    ensures { result ≡ spec.passed (right.number_at (spec.most width) bytes.now at) }
 {
-    let mut i = at;
-    let mut limit = most;
-    let mut left = LONGEST;
-    while 0 < left {
+    let mut limit = width.most();
+    for k in 0..LONGEST {
+        let i = at + k;
         if bytes.len() <= i {
-            return Passed::Refused(15);
+            return Err(Fault::Cut);
         }
         let byte = bytes[i];
         if byte < 128 {
             if last(byte, limit, i == at) {
-                return Passed::To(i + 1);
+                return Ok(i + 1);
             }
-            return Passed::Refused(16);
+            return Err(Fault::Wrong);
         }
         limit = limit / 128;
-        i += 1;
-        left -= 1;
     }
-    Passed::Refused(16)
+    Err(Fault::Wrong)
 }
 
 // The number at a place where one of any width stands.
@@ -81,6 +97,7 @@ pub fn read(bytes: &[u8], at: usize) -> Number
     let mut value: u64 = 0;
     let mut scale: u64 = 1;
     let mut i = at;
+    // No count: the last byte says that it is one.
     loop {
         let byte = bytes[i];
         if byte < 128 {
@@ -101,6 +118,7 @@ pub fn size(number: u64) -> usize
 {
     let mut rest = number;
     let mut n: usize = 1;
+    // No count: it steps by what is left of the number.
     while 128 <= rest {
         rest = rest / 128;
         n += 1;
@@ -116,6 +134,7 @@ pub fn put(bytes: &mut [u8], at: usize, number: u64) -> usize
 {
     let mut rest = number;
     let mut i = at;
+    // No count, as in `size`.
     while 128 <= rest {
         bytes[i] = 128 + (rest % 128) as u8;
         rest = rest / 128;

@@ -1,16 +1,15 @@
 -- The promises leave one answer, and what is lent one way; a refusal keeps all of it and gives nothing.
-use Rattle.std.specs.Prelude.{ℕ, ◌≡◌, refl, List}
+use Rattle.std.specs.Prelude.{ℕ, ◌≡◌, refl, List, Result}
 use Rattle.std.proofs.Common.{sym, ◌∙◌}
 use Rattle.blob.specs.Reading.{Outcome, refused}
 use Rattle.blob.specs.declared.Refusal.{Refusal}
 use Rattle.index.specs.Index.{given, held, AllowedRead, AllowedWrite}
 use Rattle.index.specs.Call.{given_number, AllowedCall}
-use Rattle.index.specs.declared.IndexAnswer.{IndexAnswer}
 
-pub determined_read : (bytes lent : List ℕ) (a b : IndexAnswer) (after after' : List ℕ) → AllowedRead bytes lent a after → AllowedRead bytes lent b after' → (a ≡ b) × (after ≡ after')
+pub determined_read : (bytes lent : List ℕ) (a b : Result ℕ Refusal) (after after' : List ℕ) → AllowedRead bytes lent a after → AllowedRead bytes lent b after' → (a ≡ b) × (after ≡ after')
 determined_read bytes lent a b after after' h k = (h.answered ∙ sym k.answered, h.kept ∙ sym k.kept)
 
-pub determined_write : (words capacities counts lent : List ℕ) (a b : IndexAnswer) (after after' : List ℕ) → AllowedWrite words capacities counts lent a after
+pub determined_write : (words capacities counts lent : List ℕ) (a b : Result ℕ Refusal) (after after' : List ℕ) → AllowedWrite words capacities counts lent a after
     → AllowedWrite words capacities counts lent b after' → (a ≡ b) × (after ≡ after')
 determined_write words capacities counts lent a b after after' h k = (h.answered ∙ sym k.answered, h.kept ∙ sym k.kept)
 

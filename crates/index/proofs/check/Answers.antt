@@ -1,53 +1,29 @@
 -- By the parts, in their order.
-use mathlib.Core.Path.{refl, ap, sym, ◌∙◌}
+use Rattle.std.proofs.Common.{ap, sym, ◌∙◌}
 use Rattle.blob.specs.Reading.{refused}
-use Rattle.number.specs.Scan.{ones}
 use Rattle.index.specs.Index.{ONE, ENTRY}
-use Rattle.index.specs.Read.{sound, counted_at}
-use Rattle.index.proofs.ReadLaws.{was_word, was_no_word, was_counted, was_not_counted, no-edition, other_edition, no-counts, no-entries}
+use Rattle.index.specs.Read.{counted_at}
+use Rattle.index.proofs.ReadLaws.{handed_on, was_refused, was_word, was_counted, no-edition, other_edition, no-counts, no-entries}
 use Rattle.index.proofs.check.Goals as goal
 
-pub returns-in-Refused : goal.returns-in-Refused
-returns-in-Refused c = no-edition _ _ (was_no_word _ _ (sym c.in-Refused.is ∙ c.word_at.ensures))
+pub returns-in_err-edition : goal.returns-in_err-edition
+returns-in_err-edition c = rw (handed_on _ c.from_residual.ensures.1) (no-edition _ _ (was_refused _ _ _ c.in_err-edition.ensures))
 
-pub returns-then-edition-ne1 : goal.returns-then-edition-ne1
-returns-then-edition-ne1 c =
-    let n = was_word _ _ (sym c.in-Word.is ∙ c.word_at.ensures) in
-    other_edition _ n.0 n.1 (λ e. c.if-edition-ne1.true (sym n.2 ∙ e)) ∙ ap refused (sym c.fault.ensures)
+pub returns-then-edition-ne-EDITION : goal.returns-then-edition-ne-EDITION
+returns-then-edition-ne-EDITION c =
+    let n = was_word _ _ c.in_ok-edition.ensures in
+    other_edition _ n.0 n.1 (λ e. c.if-edition-ne-EDITION.true (sym n.2 ∙ e)) ∙ ap refused (sym c.fault.ensures)
 
-pub pass_counted-requires : goal.pass_counted-requires
-unfolding sound ones
-pass_counted-requires c = refl
+pub returns-in_err-counts : goal.returns-in_err-counts
+returns-in_err-counts c =
+    let n = was_word _ _ c.in_ok-edition.ensures in
+    let q = was_refused _ _ _ c.in_err-counts.ensures in
+    rw (handed_on _ c.from_residual-in_err-counts.ensures.1) (no-counts _ n.0 n.1 (n.2 ∙ c.if-edition-ne-EDITION.false) _ (ap (counted_at ONE _) n.3 ∙ q))
 
-pub returns-in-Refused-pass_counted : goal.returns-in-Refused-pass_counted
-returns-in-Refused-pass_counted c =
-    let n = was_word _ _ (sym c.in-Word.is ∙ c.word_at.ensures) in
-    let q = was_not_counted _ _ (sym c.in-Refused-pass_counted.is ∙ c.pass_counted.ensures) in
-    no-counts _ n.0 n.1 (n.2 ∙ c.if-edition-ne1.false) _ (ap (counted_at ONE _) n.3 ∙ q)
-
-pub pass_counted-requires-2 : goal.pass_counted-requires-2
-unfolding sound ones
-pass_counted-requires-2 c = refl
-
-pub returns-in-Refused-pass_counted-2 : goal.returns-in-Refused-pass_counted-2
-returns-in-Refused-pass_counted-2 c =
-    let n = was_word _ _ (sym c.in-Word.is ∙ c.word_at.ensures) in
-    let k = was_counted _ _ (sym c.in-Counted.is ∙ c.pass_counted.ensures) in
-    let q = was_not_counted _ _ (sym c.in-Refused-pass_counted-2.is ∙ c.pass_counted-2.ensures) in
-    no-entries _ n.0 n.1 (n.2 ∙ c.if-edition-ne1.false) k.0 (ap (counted_at ONE _) n.3 ∙ k.1) _ (ap (counted_at ENTRY _) k.3 ∙ q)
-
-pub returns : goal.returns
-returns c =
-    let n = was_word _ _ (sym c.in-Word.is ∙ c.word_at.ensures) in
-    let k = was_counted _ _ (sym c.in-Counted.is ∙ c.pass_counted.ensures) in
-    let r = was_counted _ _ (sym c.in-Counted-pass_counted.is ∙ c.pass_counted-2.ensures) in
-    record {
-      edition = n.0;
-      counts = k.0;
-      entries = r.0;
-      edition_read = n.1;
-      edition_one = n.2 ∙ c.if-edition-ne1.false;
-      counts-read = ap (counted_at ONE _) n.3 ∙ k.1;
-      entries-read = ap (counted_at ENTRY _) k.3 ∙ r.1;
-      shown = rw (n.3, k.2, r.2, r.3) refl;
-    }
+pub returns-in_err-entries : goal.returns-in_err-entries
+returns-in_err-entries c =
+    let n = was_word _ _ c.in_ok-edition.ensures in
+    let k = was_counted _ _ c.in_ok-counts.ensures in
+    let q = was_refused _ _ _ c.in_err-entries.ensures in
+    rw (handed_on _ c.from_residual-in_err-entries.ensures.1)
+    (no-entries _ n.0 n.1 (n.2 ∙ c.if-edition-ne-EDITION.false) k.0 (ap (counted_at ONE _) n.3 ∙ k.1) _ (ap (counted_at ENTRY _) k.3 ∙ q))

@@ -1,19 +1,12 @@
 -- The providers' counts, then the entries.
-use mathlib.Core.Path.{refl}
-use Rattle.number.specs.Scan.{ones}
-use Rattle.index.specs.Read.{sound}
 use Rattle.index.proofs.ReadLaws.{counts-stand, entries-stand, index-given}
 use Rattle.index.proofs.give.Goals as goal
 
 pub give_counted-place-requires : goal.give_counted-place-requires
-unfolding sound ones
-give_counted-place-requires c = record { sound = refl; counted_stands = counts-stand _ _ c.args.words.now c.requires }
+give_counted-place-requires c = counts-stand _ _ c.args.words.now c.requires
 
 pub give_counted-requires : goal.give_counted-requires
-unfolding sound ones
-give_counted-requires c =
-    record { sound = refl; counted_stands = entries-stand _ _ c.args.words.now c.requires _ _ c.give_counted-place.ensures }
+give_counted-requires c = entries-stand _ _ c.args.words.now c.requires c.give_counted-place.ensures
 
 pub returns : goal.returns
-returns c =
-    index-given _ _ c.args.words.now c.requires _ _ c.give_counted-place.ensures _ _ c.give_counted.ensures
+returns c = index-given _ _ c.args.words.now c.requires c.give_counted-place.ensures c.give_counted.ensures

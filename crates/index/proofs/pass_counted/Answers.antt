@@ -1,22 +1,17 @@
-use mathlib.Core.Path.{ap, sym, ◌∙◌}
-use Rattle.index.specs.Index.{Rows}
-use Rattle.index.specs.Read.{counted_read}
-use Rattle.index.proofs.ReadLaws.{was_word, was_no_word, was_passed, was_refused, counted_none, counted-stops, counted-goes}
+use Rattle.std.proofs.Common.{sym}
+use Rattle.index.proofs.ReadLaws.{handed_on, was_found, was_refused, was_word, counted_none, counted-stops, counted-goes}
 use Rattle.index.proofs.pass_counted.Goals as goal
 
-pub returns-in-Refused : goal.returns-in-Refused
-returns-in-Refused c =
-    let q = was_no_word _ _ (sym c.in-Refused.is ∙ c.word_at.ensures) in
-    sym (ap counted_read (counted_none _ _ _ _ q))
+pub returns-in_err-count : goal.returns-in_err-count
+returns-in_err-count c = rw (handed_on _ c.from_residual.ensures.1, counted_none _ _ _ _ (was_refused _ _ _ c.in_err-count.ensures))
 
-pub returns-in-Refused-pass_rows : goal.returns-in-Refused-pass_rows
-returns-in-Refused-pass_rows c =
-    let n = was_word _ _ (sym c.in-Word.is ∙ c.word_at.ensures) in
-    let q = was_refused (λ (r : Rows). r.behind) _ _ (sym c.in-Refused-pass_rows.is ∙ c.pass_rows.ensures) in
-    sym (ap counted_read (counted-stops _ _ _ n.0 _ _ n.1 n.2 n.3 _ q))
+pub returns-in_err-behind : goal.returns-in_err-behind
+returns-in_err-behind c =
+    let n = was_word _ _ c.in_ok-count.ensures in
+    rw (handed_on _ c.from_residual-in_err-behind.ensures.1, counted-stops _ _ _ n.0 _ _ n.1 n.2 n.3 _ (was_refused _ _ _ c.in_err-behind.ensures))
 
-pub returns-in-At : goal.returns-in-At
-returns-in-At c =
-    let n = was_word _ _ (sym c.in-Word.is ∙ c.word_at.ensures) in
-    let r = was_passed (λ (r : Rows). r.behind) _ _ (sym c.in-At.is ∙ c.pass_rows.ensures) in
+pub returns : goal.returns
+returns c =
+    let n = was_word _ _ c.in_ok-count.ensures in
+    let r = was_found _ _ _ c.in_ok-behind.ensures in
     sym (counted-goes _ _ _ n.0 _ _ n.1 n.2 n.3 r.0 _ r.1 r.2)

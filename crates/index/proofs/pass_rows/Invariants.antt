@@ -1,11 +1,8 @@
 -- What is left decides.
-use mathlib.Core.Path.{◌≡◌}
+use Rattle.std.proofs.Common.{◌≡◌, ◌-◌}
 use Rattle.index.specs.Index.{rows_at}
-use Rattle.index.specs.Read.{behind_rows}
+use Rattle.index.specs.Read.{mosts, behind_rows}
 use Rattle.index.proofs.pass_rows.Given as goal
 
-abbrev pub invariant-loop-left : goal.invariant-loop-left
-invariant-loop-left l = behind_rows (rows_at l.n l.widths l.bytes l.at) ≡ behind_rows (rows_at l.left l.widths l.bytes l.to)
-
-abbrev pub decreases-loop-left : goal.decreases-loop-left
-decreases-loop-left l = l.left
+abbrev pub invariant-loop-i : goal.invariant-loop-i
+invariant-loop-i l = behind_rows (rows_at l.n (mosts l.widths) l.bytes l.at) ≡ behind_rows (rows_at (l.n - l.i) (mosts l.widths) l.bytes l.to)

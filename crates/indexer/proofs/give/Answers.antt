@@ -1,8 +1,7 @@
 -- By the bytes that are lent.
-use mathlib.Core.Path.{ap, sym, ◌∙◌}
+use Rattle.std.proofs.Common.{ap, sym, ◌∙◌, Ok, Err}
 use native.Mathlib.Omega.{arith}
 use Rattle.index.specs.Index.{given, held, written}
-use Rattle.index.specs.declared.IndexAnswer.TheVariants as answers
 use Rattle.indexer.specs.Listed.{index_by}
 use Rattle.indexer.specs.Whole.{room_for, room-none}
 use Rattle.indexer.proofs.give.Goals as goal
@@ -10,7 +9,7 @@ use Rattle.indexer.proofs.give.Goals as goal
 pub returns-then-bytes-whole : goal.returns-then-bytes-whole
 returns-then-bytes-whole c =
     let e = room-none (written (index_by c.args.words.now c.args.capacities c.args.counts c.args.owners.now)) c.args.bytes.now (omega (arith, c.size_index-whole.ensures.1, c.if-bytes-whole.true)) in
-    record { value = ap answers.Refused c.short.ensures ∙ ap given (sym e); bytes_after = ap (held c.args.bytes.now) (sym e) }
+    record { value = ap Err c.short.ensures ∙ ap given (sym e); bytes_after = ap (held c.args.bytes.now) (sym e) }
 
 pub put_index-requires : goal.put_index-requires
 put_index-requires c =
@@ -19,4 +18,4 @@ put_index-requires c =
 pub returns : goal.returns
 returns c =
     let e = room_for (written (index_by c.args.words.now c.args.capacities c.args.counts c.args.owners.now)) c.args.bytes.now (omega (arith, c.size_index-whole.ensures.1, c.if-bytes-whole.false)) in
-    record { value = ap answers.Given c.size_index-whole.ensures.1 ∙ ap given (sym e); bytes_after = c.put_index.ensures ∙ ap (held c.args.bytes.now) (sym e) }
+    record { value = ap Ok c.size_index-whole.ensures.1 ∙ ap given (sym e); bytes_after = c.put_index.ensures ∙ ap (held c.args.bytes.now) (sym e) }

@@ -1,33 +1,30 @@
 -- What is left decides: the bytes from here on, with what the width leaves for them.
-use mathlib.Core.Path.{refl, sym, ◌∙◌}
-use native.Mathlib.Omega.{arith}
-use Rattle.number.proofs.Scan.{scans, scan-over, scan-out, scan-last, scan-more}
+use Rattle.std.proofs.Common.{◌≡◌, ◌+◌, ◌-◌, sym, ◌∙◌, arith}
+use Rattle.number.specs.Number.{LONGEST}
+use Rattle.number.proofs.Scan.{scans, most-ones, scan-over, scan-out, scan-last, scan-more}
 use Rattle.number.proofs.pass.Goals as goal
 
-pub loop-left-init : goal.loop-left-init
-loop-left-init c = (omega arith, refl, scans _ _ _ c.before.requires)
+pub loop-k-init : goal.loop-k-init
+loop-k-init c =
+    let i : c.args.at + 0 ≡ c.args.at = omega arith in
+    record { inside = λ h. omega arith; decides = rw (i, c.most-limit.ensures) (scans _ _ _ (most-ones c.args.width)) }
 
 pub returns-then-bytes-i : goal.returns-then-bytes-i
-returns-then-bytes-i c =
-    let l = c.before.before in
-    sym (l.loop-left.invariant.2 ∙ scan-out _ _ _ _ _ c.before.loop-left-test.true c.if-bytes-i.true)
+returns-then-bytes-i c = sym (c.loop-k.invariant.decides ∙ scan-out _ _ _ _ _ (omega arith) c.if-bytes-i.true)
 
 pub returns-then-last : goal.returns-then-last
 returns-then-last c =
-    let l = c.before.before.before.before.before.before in
-    let e = sym c.before.last.ensures ∙ c.if-last.true in
-    sym (l.loop-left.invariant.2 ∙ scan-last _ _ _ _ _ (omega arith) (omega arith) (omega arith) ∙ rw e)
+    sym (c.loop-k.invariant.decides ∙ scan-last _ _ _ _ _ (omega arith) c.if-bytes-i.false c.if-byte-lt128.true ∙ rw (sym c.last.ensures ∙ c.if-last.true))
 
 pub returns-then-byte-lt128 : goal.returns-then-byte-lt128
 returns-then-byte-lt128 c =
-    let l = c.before.before.before.before.before.before in
-    let e = sym c.before.last.ensures ∙ c.if-last.false in
-    sym (l.loop-left.invariant.2 ∙ scan-last _ _ _ _ _ (omega arith) (omega arith) (omega arith) ∙ rw e)
+    sym (c.loop-k.invariant.decides ∙ scan-last _ _ _ _ _ (omega arith) c.if-bytes-i.false c.if-byte-lt128.true ∙ rw (sym c.last.ensures ∙ c.if-last.false))
 
-pub loop-left-preserved : goal.loop-left-preserved
-loop-left-preserved c =
-    let l = c.before.before.before.before in
-    (omega arith, omega arith, l.loop-left.invariant.2 ∙ scan-more _ _ _ _ _ c.before.before.before.loop-left-test.true (omega arith) (omega arith))
+pub loop-k-preserved : goal.loop-k-preserved
+loop-k-preserved c =
+    let i : c.args.at + c.loop-k.k + 1 ≡ c.args.at + (c.loop-k.k + 1) = omega arith in
+    let n : LONGEST - c.loop-k.k - 1 ≡ LONGEST - (c.loop-k.k + 1) = omega arith in
+    record { inside = λ h. omega arith; decides = c.loop-k.invariant.decides ∙ scan-more _ _ _ _ _ (omega arith) c.if-bytes-i.false c.if-byte-lt128.false ∙ rw (i, n) }
 
 pub returns : goal.returns
-returns c = sym (c.before.loop-left.invariant.2 ∙ scan-over _ _ _ _ _ (omega arith))
+returns c = sym (c.loop-k.invariant.decides ∙ scan-over _ _ _ _ _ (omega arith))

@@ -1,0 +1,8 @@
+use Rattle.number.proofs.Scan.{passed_to, passed-not}
+use Rattle.index.proofs.pass.Goals as goal
+
+pub returns-in-Ok : goal.returns-in-Ok
+returns-in-Ok c = let n = passed_to _ _ _ _ c.in-Ok.ensures in rw (n.1, n.2)
+
+pub returns-in-Err : goal.returns-in-Err
+returns-in-Err c = rw (passed-not _ _ _ _ c.in-Err.ensures, c.fault.ensures, c.code.ensures)
