@@ -14,7 +14,6 @@ use borrow.Author.Tests.{eq-eqb, ne_eqb, le-leb, lt-leb}
 use Rattle.std.specs.Result.{IsErrAnd}
 use Rattle.std.proofs.lemmas.Result.{err_from_is_err_and}
 use Rattle.blob.specs.Reading.{Outcome, done, refused, choose, then, verdict}
-use Rattle.blob.specs.declared.Verdict.TheVariants as verdicts
 use Rattle.blob.proofs.Laws.{same, then-done}
 use Rattle.blob.specs.Laid.{laid, flat, length-laid, laid_more, laid-behind}
 use Rattle.blob.specs.declared.Refusal.{Refusal}
@@ -62,7 +61,7 @@ passed_read bytes at next n e h =
     let f = was_found _ _ next e in
     f.1 ∙ ap done (same _ _ (sym (wider WORD LONG bytes at f.0 (omega arith) f.1) ∙ h))
 
-pub passed_stands : (bytes : List ℕ) (at next : ℕ) → Ok next ≡ behind_number (number_at WORD bytes at) → verdict (number_at LONG bytes at) ≡ verdicts.Fine
+pub passed_stands : (bytes : List ℕ) (at next : ℕ) → Ok next ≡ behind_number (number_at WORD bytes at) → verdict (number_at LONG bytes at) ≡ Ok tt
 passed_stands bytes at next e = let f = was_found _ _ next e in ap verdict (wider WORD LONG bytes at f.0 (omega arith) f.1)
 
 -- where a width's numbers are not given in two words, they have 32 bits
@@ -189,7 +188,7 @@ module _ (ws : List Width) {bytes : List ℕ} {i at next : ℕ} {lent : List ℕ
           subst (λ (gs : List ℕ). Giving gs a.2.behind next lent behind end after) g (subst (λ stop. Giving (row_words (mosts (drop i ws)) l.row.numbers) stop next lent behind end after) b l.giving),
         )
 
-    pub row-left_stands : verdict (number_at LONG bytes at) ≡ verdicts.Fine
+    pub row-left_stands : verdict (number_at LONG bytes at) ≡ Ok tt
     row-left_stands = ap verdict row-left_next.1
 
     module _ {n : Number} (e : number_at LONG bytes at ≡ done n) where

@@ -6,7 +6,6 @@ use mathlib.Core.List.{List, [], ◌∷◌}
 use Rattle.std.proofs.Math.ListN.{drop}
 use Rattle.std.proofs.Math.Dec.{leb, ltb}
 use Rattle.blob.specs.Reading.{Outcome, choose, answer, verdict}
-use Rattle.blob.specs.declared.Verdict.TheVariants as verdicts
 use Rattle.number.specs.Number.{LONGEST, BYTE, HALF, WORD, LONG, upto, ended, value, padded, number_at}
 use Rattle.number.specs.declared.Number.{Number}
 use Rattle.number.specs.declared.Width.{Width}
@@ -50,7 +49,7 @@ scan at (suc k) limit i (b ∷ bs) =
 
 -- a number stands at a place
 abbrev pub Stands : List ℕ → ℕ → Type 0
-Stands bytes at = verdict (number_at LONG bytes at) ≡ verdicts.Fine
+Stands bytes at = verdict (number_at LONG bytes at) ≡ Ok tt
 
 -- What is left of a number that stands: of its bytes, with the number that those before them said.
 pub record Rest (bs : List ℕ) (i v scale total behind : ℕ) : Type 0 where
