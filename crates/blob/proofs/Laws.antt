@@ -259,6 +259,14 @@ module _ {S A : Type 0} (p : S → Reading A) (next : A → S → S) where
     unfolding flat
     rest-none s area left at to = fill_none (flat words) s area left at to refl
 
+    -- the same of the i-th of n, which is read at its own place, and whose words are laid at theirs
+    pub rest-next : (s area area' : List ℕ) (n i : ℕ) (at at' : S) (to to' : ℕ) (a : A) → area' ≡ laid area to (words a) → i < n → run (p at) s ≡ done a
+        → verdict (run (many p next (n - i) at) s) ≡ verdicts.Fine → next a at ≡ at' → to + length (words a) ≡ to'
+        → rest s area (n - i) at to ≡ rest s area' (n - (i + 1)) at' to'
+    rest-next s area area' n i at at' to to' a ea h e v ha ht =
+        let left : n - i - 1 ≡ n - (i + 1) = omega arith in
+        rest_more s area area' (n - i) at to a ea (omega arith) e v ∙ rw (left, ha, ht)
+
   -- one value more than the rest has
   one_more : (a : A) (o : Outcome (List A)) (n : ℕ) → verdict o ≡ verdicts.Fine → length (values o) ≡ n → length (values (then o (λ vs. done (a ∷ vs)))) ≡ suc n
   unfolding then
