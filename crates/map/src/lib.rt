@@ -276,14 +276,8 @@ fn put_entries(b: &[u8], start: usize, n: u32, area: &mut [u32], from: usize)
     requires { (8 * n ≤ length b.now - start) × (from + width ENTRIES * n ≤ length area.old) }
     ensures { area.new ≡ laid area.old from (flat map_entry_words (values (run (entries n start) b.now))) }
 {
-    let mut at = start;
-    let mut left = n;
-    let mut to = from;
-    while 0 < left {
-        put_entry(b, at, area, to);
-        at += 8;
-        left -= 1;
-        to += width::ENTRIES;
+    for i in 0..n as usize {
+        put_entry(b, start + 8 * i, area, from + width::ENTRIES * i);
     }
 }
 
