@@ -114,14 +114,7 @@ pub fn fill(
 {
     let at = items_start(end, offset);
     for i in 0..n as usize {
-        put(
-            b,
-            temp,
-            end,
-            at + 20 * i,
-            number,
-            area,
-            start + width::ITEMS * i,
-        );
+        let to = start + width::ITEMS * i;
+        put(b, temp, end, at + 20 * i, number, area, to);
     }
 }
