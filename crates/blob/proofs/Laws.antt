@@ -337,3 +337,7 @@ pub length-flat : {A B : Type 0} (words : A → List B) (w : ℕ) → ((a : A) �
 unfolding flat
 length-flat words w h [] = simp mul-zero
 length-flat words w h (a ∷ vs) = simp (length-append, h a, length-flat words w h vs, mul-suc) (omega arith)
+
+-- what is left behind the i-th of n, and where the next one of so many bytes stands
+pub one_on : (n i at w : ℕ) → (n - i - 1 ≡ n - (i + 1)) × (at + w * i + w ≡ at + w * (i + 1))
+one_on n i at w = (omega arith, omega arith)

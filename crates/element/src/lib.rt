@@ -209,14 +209,10 @@ pub fn place_tables(b: &[u8], start: usize, n: u32, places: &mut [u32])
     requires b_value { verdict (run (elements_from n start) b.now) ≡ Verdict.Fine }
     ensures { places.new ≡ placed places.old (values (run (elements_from n start) b.now)) }
 {
-    let mut at = start;
-    let mut left = n;
-    while 0 < left {
-        let d = descriptor_of(b, at);
+    for i in 0..n as usize {
+        let d = descriptor_of(b, start + 8 * i);
         let kind = kind_of(d.signature) as usize;
         places[kind] = d.offset;
-        at += 8;
-        left -= 1;
     }
 }
 

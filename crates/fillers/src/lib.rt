@@ -279,14 +279,10 @@ pub fn fill_unknown(b: &[u8], start: usize, n: u32, number: u32, area: &mut [u32
     ensures value { result ≡ width rows.UNKNOWN * length (unknowns (values (run (elements_from n start) b.now))) }
     ensures area_after { area.new ≡ laid area.old 0 (flat (unknown_words number) (unknowns (values (run (elements_from n start) b.now)))) }
 {
-    let mut at = start;
-    let mut left = n;
     let mut to = 0;
-    while 0 < left {
-        let d = element::descriptor_of(b, at);
+    for i in 0..n as usize {
+        let d = element::descriptor_of(b, start + 8 * i);
         to = put_unknown(b, d, number, area, to);
-        at += 8;
-        left -= 1;
     }
     to
 }

@@ -229,19 +229,13 @@ fn put_maps(b: &[u8], end: usize, start: usize, n: u32, before: u32, area: &mut 
     ensures area_after { area.new ≡ laid area.old 0 (flat (λ e. e) (map_list before (values (run (listed end start n) b.now)))) }
 {
     let first = start + 4 * (n as usize);
-    let mut place = start;
-    let mut left = n;
     let mut entries = before;
-    let mut to = 0;
-    while 0 < left {
-        let MapRead::Map(m) = listed_at(b, end, start, first, place) else {
+    for i in 0..n as usize {
+        let MapRead::Map(m) = listed_at(b, end, start, first, start + 4 * i) else {
             return before;
         };
-        put_map(area, to, entries, m);
+        put_map(area, width::MAPS * i, entries, m);
         entries += m.count;
-        place += 4;
-        left -= 1;
-        to += width::MAPS;
     }
     entries
 }
@@ -290,17 +284,13 @@ fn put_map_entries(b: &[u8], end: usize, start: usize, n: u32, area: &mut [u32])
     ensures area_after { area.new ≡ laid area.old 0 (flat (λ m. flat map_entry_words m.entries) (values (run (listed end start n) b.now))) }
 {
     let first = start + 4 * (n as usize);
-    let mut place = start;
-    let mut left = n;
     let mut to = 0;
-    while 0 < left {
-        let MapRead::Map(m) = listed_at(b, end, start, first, place) else {
+    for i in 0..n as usize {
+        let MapRead::Map(m) = listed_at(b, end, start, first, start + 4 * i) else {
             return 0;
         };
         put_entries(b, m.offset as usize + 16, m.count, area, to);
         to += width::ENTRIES * (m.count as usize);
-        place += 4;
-        left -= 1;
     }
     to
 }
