@@ -229,18 +229,14 @@ pub fn check(b: &[u8], start: usize, n: u32) -> Needed
     }
     let places = e.places;
     let entries = e.entries;
-    let mut kind = CHAN;
-    let mut left: u32 = 8;
     let mut tables = 0;
     let mut counts = [0; AREAS];
-    while 0 < left {
+    for kind in CHAN..KINDS as u32 {
         let place = places[kind as usize];
         if place != NONE {
             tables += 1;
             counts = counts::grow(counts, kind, blob::word(b, place as usize + 8));
         }
-        kind += 1;
-        left -= 1;
     }
     counts[row::TABLES] = tables;
     counts[row::ENTRIES] = entries[MAPS as usize];

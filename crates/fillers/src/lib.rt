@@ -244,14 +244,10 @@ pub fn fill_tables(
 {
     let mut places = [NONE; KINDS];
     element::place_tables(b, start, n, &mut places);
-    let mut kind = CHAN;
-    let mut left: u32 = 8;
     let mut to = 0;
-    while 0 < left {
+    for kind in CHAN..KINDS as u32 {
         let place = places[kind as usize];
         to += put_kind(b, list, kind, place, number, before, &mut area[to..]);
-        kind += 1;
-        left -= 1;
     }
     to
 }

@@ -251,10 +251,8 @@ fn fill_items_until(
     ensures area_after { area.new ≡ laid area.old 0 (flat (λ e. e) (item_list first (values (run (many (template_at (until end)) next n start) b.now)))) }
 {
     let mut at = start;
-    let mut left = n;
-    let mut number = first;
     let mut to = 0;
-    while 0 < left {
+    for number in first..first + n {
         let behind = at + blob::word(b, at + 4) as usize;
         let items = blob::word(b, at + 8);
         item::fill(
@@ -268,8 +266,6 @@ fn fill_items_until(
             to,
         );
         at = behind;
-        left -= 1;
-        number += 1;
         to += width::ITEMS * (items as usize);
     }
     to
