@@ -10,7 +10,6 @@ ghost use Rattle.format.specs.Steps.Needs as need;
 ghost use Rattle.areas.specs.Areas.{providers, providers_in};
 ghost use Rattle.manifest.specs.Read.{block_of, block_reading};
 
-use areas::Position;
 use blob::{Refusal, Verdict};
 use format::field::CRIM_PROVIDER_DESCRIPTOR_ARRAY;
 use format::list::AREAS;
@@ -21,16 +20,14 @@ fn check(b: &[u8], n: u32) -> Needed
     requires { (16 + 20 * n ≤ length b.now) × (length b.now ≤ 16777216) }
     ensures { result ≡ need.providers_read none (run (providers n) b.now) }
 {
-    let mut p = Position::first(n);
     let mut needs = [0; AREAS];
-    while 0 < p.left {
-        let found = provider::check(b, p.at, needs);
+    for i in 0..n as usize {
+        let found = provider::check(b, 16 + 20 * i, needs);
         let verdict = found.verdict;
         if let Verdict::Refused(r) = verdict {
             return counts::refused(r);
         }
         needs = found.counts;
-        p = p.next();
     }
     Needed {
         verdict: Verdict::Fine,

@@ -188,7 +188,8 @@ fn put(b: &[u8], at: usize, size: u32, provider: u32, area: &mut [u32], to: usiz
     words::put(area, to, &entry);
 }
 
-// Stores the words of n TEMPs that `check_until` found fine, of the provider with a number. It steps as that does.
+// Stores the words of n TEMPs that `check_until` found fine, of the provider with a number. It steps as that does: by the size that it
+// reads, and a turn that takes a new size stores nothing, so that no count tells the turns.
 fn fill_until(b: &[u8], end: usize, start: usize, n: u32, provider: u32, area: &mut [u32])
     requires start_le_end { (start ≤ end) × (end ≤ length b.now) × (length b.now ≤ 16777216) }
     requires n_in_bounds { width TEMPLATES * n ≤ length area.old }

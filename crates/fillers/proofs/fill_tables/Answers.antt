@@ -1,8 +1,7 @@
 -- The invariant: what is left decides. What the list has of the kinds that are left, laid from here, makes the area what it shall be.
-use Prim.Native.Nat.{◌+◌, ◌-◌}
+use Prim.Native.Nat.{◌+◌, ◌-◌, ◌≤◌}
 use mathlib.Core.Path.{◌≡◌, refl}
 use native.Mathlib.Omega.{arith}
-use borrow.Author.Rules.{rules}
 use Rattle.format.specs.Steps.Parts.{behind_all, table_parts}
 use Rattle.format.proofs.Theorems.Stored.{left-none}
 use Rattle.element.specs.Places.{kind-place}
@@ -42,4 +41,6 @@ loop-kind-preserved c =
 
 pub returns : goal.returns
 unfolding behind_all table_parts
-returns c = left-none (rw (kept-none _ _ _ (omega arith)) at c.loop-kind.invariant)
+returns c =
+    let none : 9 - c.loop-kind.kind ≤ 0 = omega arith in
+    left-none (rw (kept-none _ _ _ none) at c.loop-kind.invariant)

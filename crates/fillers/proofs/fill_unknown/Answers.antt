@@ -1,10 +1,9 @@
 -- The invariant: what is left decides. The rest, laid from here, makes the area what it shall be, and ends where it shall.
-use mathlib.Core.Path.{◌≡◌, refl, ap, sym, ◌∙◌}
+use mathlib.Core.Path.{◌≡◌, ap, sym, ◌∙◌}
 use mathlib.Core.List.{List, []}
 use Prim.Native.Nat.{◌+◌, ◌-◌, ◌*◌, ◌<◌}
 use native.Mathlib.Omega.{arith}
 use Rattle.blob.proofs.Laws.{one_on}
-use borrow.Author.Rules.{rules}
 use lib.ListN.{length}
 use Rattle.blob.specs.Reading.{run, values}
 use Rattle.blob.specs.Laid.{laid, flat}

@@ -1,7 +1,6 @@
 -- The invariant: what is left decides. The answer for the providers that are left, with the needs so far, is that for all.
-use Prim.Native.Nat.{◌+◌, ◌*◌, ◌≤◌}
+use Prim.Native.Nat.{◌+◌, ◌-◌, ◌*◌}
 use mathlib.Core.Path.{◌≡◌}
-use lib.ListN.{length}
 use Rattle.blob.specs.Reading.{run, many}
 use Rattle.format.specs.Area.{none}
 use Rattle.format.specs.Definition.{step}
@@ -10,11 +9,6 @@ use Rattle.format.specs.Steps.Needs.{modest, providers_read}
 use Rattle.areas.specs.Areas.{providers}
 use Rattle.manifest.proofs.check.Given as goal
 
-abbrev pub invariant-loop-p : goal.invariant-loop-p
-invariant-loop-p l =
-    (l.p.at + 20 * l.p.left ≤ length l.b)
-    × modest l.needs
-    × (providers_read none (run (providers l.n) l.b) ≡ providers_read l.needs (run (many described_at (step 20) l.p.left l.p.at) l.b))
-
-abbrev pub decreases-loop-p : goal.decreases-loop-p
-decreases-loop-p l = l.p.left
+abbrev pub invariant-loop-i : goal.invariant-loop-i
+invariant-loop-i l =
+    modest l.needs × (providers_read none (run (providers l.n) l.b) ≡ providers_read l.needs (run (many described_at (step 20) (l.n - l.i) (16 + 20 * l.i)) l.b))
