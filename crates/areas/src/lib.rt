@@ -13,33 +13,6 @@ ghost use Rattle.areas.specs.Areas.{providers, providers_in, roomy};
 
 use format::list::{AREAS, NUMBERS, WORDS};
 
-// Where a walk over the providers stands: the place of the next one's descriptor, and how many are left.
-#[derive(Clone, Copy)]
-pub struct Position {
-    pub at: usize,
-    pub left: u32,
-}
-
-impl Position {
-    // Before the first of n providers.
-    pub fn first(n: u32) -> Position
-        ensures { (result.at ≡ 16) × (result.left ≡ n) }
-    {
-        Position { at: 16, left: n }
-    }
-
-    // Behind the next one.
-    pub fn next(self) -> Position
-        requires { (self.at ≤ 16777216) × (1 ≤ self.left) }
-        ensures { (result.at ≡ self.at + 20) × (result.left ≡ self.left - 1) }
-    {
-        Position {
-            at: self.at + 20,
-            left: self.left - 1,
-        }
-    }
-}
-
 // Stores what a list has of n providers that are fine.
 fn fill(b: &[u8], n: u32, list: u32, area: &mut [u32])
     requires n_in_bounds { (16 + 20 * n ≤ length b.now) × (length b.now ≤ 16777216) }
@@ -47,14 +20,11 @@ fn fill(b: &[u8], n: u32, list: u32, area: &mut [u32])
     requires room { parts.Room (parts.parts list 0 none (providers_in n b.now)) (parts.passed_all list none (providers_in n b.now)) area.old }
     ensures { area.new ≡ laid area.old 0 (parts.parts list 0 none (providers_in n b.now)) }
 {
-    let mut p = Position::first(n);
-    let mut number = 0;
     let mut before = [0; AREAS];
     let mut to = 0;
-    while 0 < p.left {
-        to += provided::fill(b, p.at, list, number, &mut before, &mut area[to..]);
-        number += 1;
-        p = p.next();
+    for number in 0..n {
+        let at = 16 + 20 * (number as usize);
+        to += provided::fill(b, at, list, number, &mut before, &mut area[to..]);
     }
 }
 
@@ -102,11 +72,9 @@ pub fn fill_areas(
     // The tables once, outside the loop: a constant array is made anew wherever it is read.
     let numbers = NUMBERS;
     let widths = WORDS;
-    let mut i = 0;
     let mut to = 0;
-    while i < AREAS {
+    for i in 0..AREAS {
         let size = (capacities[i] as usize) * widths[i];
         to = fill_area(b, n, numbers[i], words, to, size, needs[i]);
-        i += 1;
     }
 }

@@ -281,6 +281,20 @@ module _ {S A : Type 0} (p : S → Reading A) (next : A → S → S) where
     unfolding flat
     rest-none s area left at to = fill_none (flat words) s area left at to refl
 
+    -- the same of the i-th of n, which is read at its own place, and whose words are laid at theirs
+    pub rest-next : (s area area' : List ℕ) (n i : ℕ) (at at' : S) (to to' : ℕ) (a : A) → area' ≡ laid area to (words a) → i < n → run (p at) s ≡ done a
+        → verdict (run (many p next (n - i) at) s) ≡ Ok tt → next a at ≡ at' → to + length (words a) ≡ to'
+        → rest s area (n - i) at to ≡ rest s area' (n - (i + 1)) at' to'
+    rest-next s area area' n i at at' to to' a ea h e v ha ht =
+        let left : n - i - 1 ≡ n - (i + 1) = omega arith in
+        rest_more s area area' (n - i) at to a ea (omega arith) e v ∙ rw (left, ha, ht)
+
+  pub many-next : (n i : ℕ) (at at' : S) (s : List ℕ) (a : A) → i < n → run (p at) s ≡ done a → next a at ≡ at'
+      → verdict (run (many p next (n - i) at) s) ≡ verdict (run (many p next (n - (i + 1)) at') s)
+  many-next n i at at' s a h e ha =
+      let left : n - i - 1 ≡ n - (i + 1) = omega arith in
+      many_more (n - i) at s a (omega arith) e ∙ rw (left, ha)
+
   -- one value more than the rest has
   one_more : (a : A) (o : Outcome (List A)) (n : ℕ) → verdict o ≡ Ok tt → length (values o) ≡ n → length (values (then o (λ vs. done (a ∷ vs)))) ≡ suc n
   unfolding then
@@ -345,3 +359,7 @@ pub length-flat : {A B : Type 0} (words : A → List B) (w : ℕ) → ((a : A) �
 unfolding flat
 length-flat words w h [] = simp mul-zero
 length-flat words w h (a ∷ vs) = simp (length-append, h a, length-flat words w h vs, mul-suc) (omega arith)
+
+-- what is left behind the i-th of n, and where the next one of so many bytes stands
+pub one_on : (n i at w : ℕ) → (n - i - 1 ≡ n - (i + 1)) × (at + w * i + w ≡ at + w * (i + 1))
+one_on n i at w = (omega arith, omega arith)

@@ -43,10 +43,8 @@ pub fn add(all: [u32; AREAS], more: [u32; AREAS]) -> [u32; AREAS]
     ensures { result ≡ needs.plus all more }
 {
     let mut sums = all;
-    let mut i = 0;
-    while i < AREAS {
+    for i in 0..AREAS {
         sums[i] = bounds::sum(sums[i], more[i]);
-        i += 1;
     }
     sums
 }
@@ -79,13 +77,11 @@ pub fn lent_enough(c: [u32; AREAS], words: usize) -> bool
     ensures { result ≡ (answer.moderate c && leb (answer.areas area.rows c) words) }
 {
     let mut sum = 0;
-    let mut i = 0;
-    while i < AREAS {
+    for i in 0..AREAS {
         if MOST < c[i] {
             return false;
         }
         sum += words_of(c[i], i);
-        i += 1;
     }
     sum <= words
 }
@@ -96,10 +92,8 @@ pub fn area_at(c: [u32; AREAS], row: usize) -> usize
     ensures { (result ≡ answer.areas area.rows (take row c)) × (result ≤ area.AREAS * (area.WIDEST * 4294967295)) }
 {
     let mut sum = 0;
-    let mut i = 0;
-    while i < row {
+    for i in 0..row {
         sum += words_of(c[i], i);
-        i += 1;
     }
     sum
 }
@@ -108,8 +102,7 @@ pub fn area_at(c: [u32; AREAS], row: usize) -> usize
 pub fn room(c: [u32; AREAS], needs: [u32; AREAS]) -> Result<(), Refusal>
     ensures { result ≡ short area.rows c needs }
 {
-    let mut i = 0;
-    while i < AREAS {
+    for i in 0..AREAS {
         if c[i] < needs[i] {
             return Err(Refusal {
                 code: 9,
@@ -119,7 +112,6 @@ pub fn room(c: [u32; AREAS], needs: [u32; AREAS]) -> Result<(), Refusal>
                 second: c[i] as u64,
             });
         }
-        i += 1;
     }
     Ok(())
 }

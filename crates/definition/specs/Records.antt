@@ -2,6 +2,7 @@
 use Rattle.std.specs.Prelude.{ℕ, suc, ◌+◌, ◌-◌, ◌*◌, ◌≤◌, ◌<◌, ◌≡◌, List, Bool, eqb, length, Ok, Err}
 use Rattle.std.proofs.Math.Path.{refl}
 use Rattle.std.proofs.Common.{ap, sym, ◌∙◌, add_comm, mul-suc, arith}
+use Rattle.std.proofs.Math.Nat.{mul-le-mul_left}
 use Rattle.std.proofs.Math.Bool.{true, false}
 use Rattle.blob.specs.Le.{le}
 use Rattle.blob.specs.Reading.{Reading, Outcome, done, refused, choose, run, many, verdict}
@@ -98,6 +99,10 @@ pub one_less : (w left : ℕ) → 0 < left → w * left ≡ w + w * (left - 1)
 one_less w left h =
     let e : left ≡ suc (left - 1) = omega arith in
     ap (λ n. w * n) e ∙ mul-suc w (left - 1) ∙ add_comm (w * (left - 1)) w
+
+-- the i-th of n records ends in the row
+pub below_whole : (w i n : ℕ) → i < n → w * i + w ≤ w * n
+below_whole w i n h = omega (arith, mul-suc w i, mul-le-mul_left w h)
 
 -- a table of definitions is its records, where it ends
 module _ (k at : ℕ) (h : Header) (s : List ℕ) where

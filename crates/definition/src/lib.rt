@@ -219,14 +219,9 @@ fn fill_records(b: &[u8], kind: u32, start: usize, n: u32, area: &mut [u32])
     ensures { area.new ≡ laid area.old 0 (flat definition_words (values (run (rows kind (stride kind) n start) b.now))) }
 {
     let bytes = stride(kind) as usize;
-    let mut at = start;
-    let mut left = n;
-    let mut to = 0;
-    while 0 < left {
-        put_definition(area, to, definition_of(b, kind, at));
-        at += bytes;
-        left -= 1;
-        to += width::DEFINITIONS;
+    for i in 0..n as usize {
+        let d = definition_of(b, kind, start + bytes * i);
+        put_definition(area, width::DEFINITIONS * i, d);
     }
 }
 

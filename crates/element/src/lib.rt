@@ -174,14 +174,10 @@ pub fn place_tables(b: &[u8], start: usize, n: u32, places: &mut [u32])
     requires b_value { verdict (run (elements_from n start) b.now) ≡ Ok tt }
     ensures { places.new ≡ placed places.old (values (run (elements_from n start) b.now)) }
 {
-    let mut at = start;
-    let mut left = n;
-    while 0 < left {
-        let d = descriptor_of(b, at);
+    for i in 0..n as usize {
+        let d = descriptor_of(b, start + 8 * i);
         let kind = kind_of(d.signature) as usize;
         places[kind] = d.offset;
-        at += 8;
-        left -= 1;
     }
 }
 
@@ -194,18 +190,14 @@ pub fn check(b: &[u8], start: usize, n: u32) -> Result<[u32; AREAS], Refusal>
     let e = check_elements(b, start, n)?;
     let places = e.places;
     let entries = e.entries;
-    let mut kind = CHAN;
-    let mut left: u32 = 8;
     let mut tables = 0;
     let mut counts = [0; AREAS];
-    while 0 < left {
+    for kind in CHAN..KINDS as u32 {
         let place = places[kind as usize];
         if place != NONE {
             tables += 1;
             counts = counts::grow(counts, kind, blob::word(b, place as usize + 8));
         }
-        kind += 1;
-        left -= 1;
     }
     counts[row::TABLES] = tables;
     counts[row::ENTRIES] = entries[MAPS as usize];

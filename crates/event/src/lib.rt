@@ -69,13 +69,7 @@ pub fn fill_events(b: &[u8], at: usize, n: u32, area: &mut [u32])
     requires n_in_bounds_2 { width EVENTS * n ≤ length area.old }
     ensures { area.new ≡ laid area.old 0 (flat event_words (values (run (many event_at (step 48) n at) b.now))) }
 {
-    let mut next = at;
-    let mut left = n;
-    let mut to = 0;
-    while 0 < left {
-        put_event(area, to, event_at(b, next));
-        next += 48;
-        left -= 1;
-        to += width::EVENTS;
+    for i in 0..n as usize {
+        put_event(area, width::EVENTS * i, event_at(b, at + 48 * i));
     }
 }

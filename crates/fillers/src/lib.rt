@@ -29,18 +29,12 @@ pub fn fill_descriptors(b: &[u8], start: usize, n: u32, area: &mut [u32]) -> usi
     ensures value { result ≡ width rows.DESCRIPTORS * n }
     ensures area_after { area.new ≡ laid area.old 0 (flat descriptor_words (values (run (many descriptor_at (step 8) n start) b.now))) }
 {
-    let mut at = start;
-    let mut left = n;
-    let mut to = 0;
-    while 0 < left {
-        let d = element::descriptor_of(b, at);
+    for i in 0..n as usize {
+        let d = element::descriptor_of(b, start + 8 * i);
         let entry = [d.offset, d.unknown, d.signature];
-        words::put(area, to, &entry);
-        at += 8;
-        left -= 1;
-        to += width::DESCRIPTORS;
+        words::put(area, width::DESCRIPTORS * i, &entry);
     }
-    to
+    width::DESCRIPTORS * (n as usize)
 }
 
 // Stores n unknown2 words.
@@ -50,17 +44,11 @@ pub fn fill_unknown2(b: &[u8], start: usize, n: u32, area: &mut [u32]) -> usize
     ensures value { result ≡ width rows.UNKNOWN2 * n }
     ensures area_after { area.new ≡ laid area.old 0 (flat unknown2_words (values (run (many (number 4) (step 4) n start) b.now))) }
 {
-    let mut at = start;
-    let mut left = n;
-    let mut to = 0;
-    while 0 < left {
-        let entry = [blob::word(b, at)];
-        words::put(area, to, &entry);
-        at += 4;
-        left -= 1;
-        to += width::UNKNOWN2;
+    for i in 0..n as usize {
+        let entry = [blob::word(b, start + 4 * i)];
+        words::put(area, width::UNKNOWN2 * i, &entry);
     }
-    to
+    width::UNKNOWN2 * (n as usize)
 }
 
 // Whether tables of a kind have definitions.
@@ -249,14 +237,10 @@ pub fn fill_tables(
 {
     let mut places = [NONE; KINDS];
     element::place_tables(b, start, n, &mut places);
-    let mut kind = CHAN;
-    let mut left: u32 = 8;
     let mut to = 0;
-    while 0 < left {
+    for kind in CHAN..KINDS as u32 {
         let place = places[kind as usize];
         to += put_kind(b, list, kind, place, number, before, &mut area[to..]);
-        kind += 1;
-        left -= 1;
     }
     to
 }
@@ -284,14 +268,10 @@ pub fn fill_unknown(b: &[u8], start: usize, n: u32, number: u32, area: &mut [u32
     ensures value { result ≡ width rows.UNKNOWN * length (unknowns (values (run (elements_from n start) b.now))) }
     ensures area_after { area.new ≡ laid area.old 0 (flat (unknown_words number) (unknowns (values (run (elements_from n start) b.now)))) }
 {
-    let mut at = start;
-    let mut left = n;
     let mut to = 0;
-    while 0 < left {
-        let d = element::descriptor_of(b, at);
+    for i in 0..n as usize {
+        let d = element::descriptor_of(b, start + 8 * i);
         to = put_unknown(b, d, number, area, to);
-        at += 8;
-        left -= 1;
     }
     to
 }

@@ -101,13 +101,9 @@ pub fn fill(
     requires n_in_bounds { start + width ITEMS * n ≤ length area.old }
     ensures { area.new ≡ laid area.old start (flat (item_words number) (values (run (items_from temp end n offset) b.now))) }
 {
-    let mut at = items_start(end, offset);
-    let mut left = n;
-    let mut to = start;
-    while 0 < left {
-        put(b, temp, end, at, number, area, to);
-        at += 20;
-        left -= 1;
-        to += width::ITEMS;
+    let at = items_start(end, offset);
+    for i in 0..n as usize {
+        let to = start + width::ITEMS * i;
+        put(b, temp, end, at + 20 * i, number, area, to);
     }
 }

@@ -215,19 +215,11 @@ fn put_maps(b: &[u8], end: usize, start: usize, n: u32, before: u32, area: &mut 
     ensures area_after { area.new ≡ laid area.old 0 (flat (λ e. e) (map_list before (values (run (listed end start n) b.now)))) }
 {
     let first = start + 4 * (n as usize);
-    let mut place = start;
-    let mut left = n;
     let mut entries = before;
-    let mut to = 0;
-    while 0 < left {
-        let Ok(m) = listed_at(b, end, start, first, place) else {
-            return before;
-        };
-        put_map(area, to, entries, m);
+    for i in 0..n as usize {
+        let m = listed_at(b, end, start, first, start + 4 * i).unwrap();
+        put_map(area, width::MAPS * i, entries, m);
         entries += m.count;
-        place += 4;
-        left -= 1;
-        to += width::MAPS;
     }
     entries
 }
@@ -260,14 +252,8 @@ fn put_entries(b: &[u8], start: usize, n: u32, area: &mut [u32], from: usize)
     requires { (8 * n ≤ length b.now - start) × (from + width ENTRIES * n ≤ length area.old) }
     ensures { area.new ≡ laid area.old from (flat map_entry_words (values (run (entries n start) b.now))) }
 {
-    let mut at = start;
-    let mut left = n;
-    let mut to = from;
-    while 0 < left {
-        put_entry(b, at, area, to);
-        at += 8;
-        left -= 1;
-        to += width::ENTRIES;
+    for i in 0..n as usize {
+        put_entry(b, start + 8 * i, area, from + width::ENTRIES * i);
     }
 }
 
@@ -280,17 +266,11 @@ fn put_map_entries(b: &[u8], end: usize, start: usize, n: u32, area: &mut [u32])
     ensures area_after { area.new ≡ laid area.old 0 (flat (λ m. flat map_entry_words m.entries) (values (run (listed end start n) b.now))) }
 {
     let first = start + 4 * (n as usize);
-    let mut place = start;
-    let mut left = n;
     let mut to = 0;
-    while 0 < left {
-        let Ok(m) = listed_at(b, end, start, first, place) else {
-            return 0;
-        };
+    for i in 0..n as usize {
+        let m = listed_at(b, end, start, first, start + 4 * i).unwrap();
         put_entries(b, m.offset as usize + 16, m.count, area, to);
         to += width::ENTRIES * (m.count as usize);
-        place += 4;
-        left -= 1;
     }
     to
 }

@@ -46,16 +46,12 @@ fn furthest(b: &[u8], start: usize, n: u32) -> u32
     requires { start + 8 * n ≤ length b.now }
     ensures { result ≡ wevt.furthest b.now n start }
 {
-    let mut at = start;
-    let mut left = n;
     let mut most = 0;
-    while 0 < left {
-        let place = blob::word(b, at);
+    for i in 0..n as usize {
+        let place = blob::word(b, start + 8 * i);
         if most < place {
             most = place;
         }
-        at += 8;
-        left -= 1;
     }
     most
 }

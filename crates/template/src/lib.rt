@@ -179,7 +179,8 @@ fn put(b: &[u8], at: usize, size: u32, provider: u32, area: &mut [u32], to: usiz
     words::put(area, to, &entry);
 }
 
-// Stores the words of n TEMPs that `check_until` found fine, of the provider with a number. It steps as that does.
+// Stores the words of n TEMPs that `check_until` found fine, of the provider with a number. It steps as that does: by the size that it
+// reads, and a turn that takes a new size stores nothing, so that no count tells the turns.
 fn fill_until(b: &[u8], end: usize, start: usize, n: u32, provider: u32, area: &mut [u32])
     requires start_le_end { (start ≤ end) × (end ≤ length b.now) × (length b.now ≤ 16777216) }
     requires n_in_bounds { width TEMPLATES * n ≤ length area.old }
@@ -239,10 +240,8 @@ fn fill_items_until(
     ensures area_after { area.new ≡ laid area.old 0 (flat (λ e. e) (item_list first (values (run (many (template_at (until end)) next n start) b.now)))) }
 {
     let mut at = start;
-    let mut left = n;
-    let mut number = first;
     let mut to = 0;
-    while 0 < left {
+    for number in first..first + n {
         let behind = at + blob::word(b, at + 4) as usize;
         let items = blob::word(b, at + 8);
         item::fill(
@@ -256,8 +255,6 @@ fn fill_items_until(
             to,
         );
         at = behind;
-        left -= 1;
-        number += 1;
         to += width::ITEMS * (items as usize);
     }
     to

@@ -26,9 +26,5 @@ pub fn put(area: &mut [u32], to: usize, entry: &[u32])
     requires { to + length entry.now ≤ length area.old }
     ensures { area.new ≡ laid area.old to entry.now }
 {
-    let mut i = 0;
-    while i < entry.len() {
-        area[to + i] = entry[i];
-        i += 1;
-    }
+    area[to..to + entry.len()].copy_from_slice(entry);
 }

@@ -1,5 +1,4 @@
 -- What is left of the rows decides.
-use Prim.Native.Nat.{◌-◌, ◌≤◌}
 use mathlib.Core.Path.{◌≡◌}
 use lib.ListN.{length}
 use Rattle.format.specs.Area.{AREAS}
@@ -8,7 +7,4 @@ use Rattle.counts.specs.Short.{plus_from}
 use Rattle.counts.proofs.add.Given as goal
 
 abbrev pub invariant-loop-i : goal.invariant-loop-i
-invariant-loop-i l = (l.i ≤ AREAS) × (length l.sums ≡ AREAS) × (length l.more ≡ AREAS) × modest l.sums × (plus_from l.i l.sums l.more ≡ plus l.initial.sums l.more)
-
-abbrev pub decreases-loop-i : goal.decreases-loop-i
-decreases-loop-i l = AREAS - l.i
+invariant-loop-i l = (length l.sums ≡ AREAS) × modest l.sums × (plus_from l.i l.sums l.more ≡ plus l.initial.sums l.more)

@@ -1,8 +1,7 @@
 -- The invariant: what is left decides. The rest, laid from here, makes the area what it shall be, and the rest is fine.
 use Rattle.std.specs.Prelude.{Ok}
-use Prim.Native.Nat.{◌+◌, ◌*◌, ◌≤◌}
+use Prim.Native.Nat.{◌+◌, ◌-◌, ◌*◌}
 use mathlib.Core.Path.{◌≡◌}
-use lib.ListN.{length}
 use Rattle.blob.specs.Reading.{run, verdict}
 use Rattle.blob.proofs.Laws.{rest}
 use Rattle.format.specs.Area.{DEFINITIONS, width}
@@ -12,13 +11,8 @@ use Rattle.format.specs.Lists.{definition_words}
 use Rattle.definition.specs.Records.{rows}
 use Rattle.definition.proofs.fill_records.Given as goal
 
-abbrev pub invariant-loop-left : goal.invariant-loop-left
-invariant-loop-left l =
-    (l.at + l.bytes * l.left ≤ length l.b)
-    × (l.to + width DEFINITIONS * l.left ≤ length l.area)
-    × (length l.area ≡ length l.initial.area)
-    × (verdict (run (rows l.kind l.bytes l.left l.at) l.b) ≡ Ok tt)
-    × (rest (definition_at l.kind) (step (stride l.kind)) definition_words l.b l.initial.area l.n l.start 0 ≡ rest (definition_at l.kind) (step l.bytes) definition_words l.b l.area l.left l.at l.to)
-
-abbrev pub decreases-loop-left : goal.decreases-loop-left
-decreases-loop-left l = l.left
+abbrev pub invariant-loop-i : goal.invariant-loop-i
+invariant-loop-i l =
+    (verdict (run (rows l.kind l.bytes (l.n - l.i) (l.start + l.bytes * l.i)) l.b) ≡ Ok tt)
+    × (rest (definition_at l.kind) (step (stride l.kind)) definition_words l.b l.initial.area l.n l.start 0
+    ≡ rest (definition_at l.kind) (step l.bytes) definition_words l.b l.area (l.n - l.i) (l.start + l.bytes * l.i) (width DEFINITIONS * l.i))

@@ -1,7 +1,7 @@
 -- The invariant: what is left decides. The kept tables of the kinds that are left, with what was counted before, need what all do.
 use Rattle.std.specs.Prelude.{Ok}
-use Prim.Native.Nat.{◌+◌, ◌-◌}
-use mathlib.Core.Path.{ap, sym, ◌∙◌, subst}
+use Prim.Native.Nat.{◌+◌, ◌-◌, ◌≤◌, ◌<◌}
+use mathlib.Core.Path.{◌≡◌, ap, sym, ◌∙◌, subst}
 use native.Mathlib.Omega.{arith}
 use borrow.Author.Rules.{rules}
 use lib.ListN.{length}
@@ -25,53 +25,57 @@ pub returns-in_err-e : goal.returns-in_err-e
 returns-in_err-e c =
     handed_on c.from_residual.ensures.1 (sym (ap needed_for (no-elements (run (elements_from c.args.n c.args.start) c.args.b.now) _ c.in_err-e.ensures)))
 
-pub loop-left-init : goal.loop-left-init
-loop-left-init c =
+pub loop-kind-init : goal.loop-kind-init
+loop-kind-init c =
     let o = run (elements_from c.args.n c.args.start) c.args.b.now in
     let e = is_elements o _ c.in_ok-e.ensures in
-    (omega arith, omega arith, omega arith, search rules, e.0, e.1, ap (grown_all none) (sym (kept-all (values o))), ap (λ ts. 0 + length ts) (sym (kept-all (values o))) ∙ zero-add (length (kept (values o))))
+    (omega arith, search rules, e.0, e.1, ap (grown_all none) (sym (kept-all (values o))), ap (λ ts. 0 + length ts) (sym (kept-all (values o))) ∙ zero-add (length (kept (values o))))
 
 pub returns : goal.returns
 unfolding grown_all
 returns c =
     let o = run (elements_from c.args.n c.args.start) c.args.b.now in
+    let m = c.loop-kind in
     let e = is_elements o _ c.in_ok-e.ensures in
-    let n = kept-none (values o) c.loop-left.left c.loop-left.kind c.loop-left-test.false in
+    let n = kept-none (values o) (9 - m.kind) m.kind (omega arith) in
     ap Ok
-    (counts-told c.args.b.now c.args.n c.args.start c.loop-left.invariant.4 c.loop-left.counts (sym (ap (grown_all c.loop-left.counts) n) ∙ c.loop-left.invariant.6) c.loop-left.tables _ _ _ (omega arith)
-    (omega (arith, c.loop-left.invariant.7, ap (λ ts. length ts) n)) (e.2 MAPS (omega arith) (omega arith)) (e.2 TTBL (omega arith) (omega arith)) (c.sum.ensures ∙ ap (λ u. capped (0 + u)) e.3))
-    ∙ sym (ap needed_for (fine-done o c.loop-left.invariant.4))
+    (counts-told c.args.b.now c.args.n c.args.start m.invariant.2 m.counts (sym (ap (grown_all m.counts) n) ∙ m.invariant.4) m.tables _ _ _ (omega arith)
+    (omega (arith, m.invariant.5, ap (λ ts. length ts) n)) (e.2 MAPS (omega arith) (omega arith)) (e.2 TTBL (omega arith) (omega arith)) (c.sum.ensures ∙ ap (λ u. capped (0 + u)) e.3))
+    ∙ sym (ap needed_for (fine-done o m.invariant.2))
 
 pub word-requires : goal.word-requires
 word-requires c =
-    let inv = c.loop-left.invariant in
-    omega (arith, kept-header _ _ _ _ inv.4 _ (inv.5 _ inv.0 (omega arith)) c.if-place.true)
+    let m = c.loop-kind in
+    omega (arith, kept-header _ _ _ _ m.invariant.2 _ (m.invariant.3 _ (omega arith) (omega arith)) c.if-place.true)
 
-pub loop-left-preserved : goal.loop-left-preserved
-loop-left-preserved c =
+pub loop-kind-preserved : goal.loop-kind-preserved
+loop-kind-preserved c =
     let es = values (run (elements_from c.args.n c.args.start) c.args.b.now) in
-    let more = c.loop-left-test.true in
-    let place = c.loop-left.invariant.5 _ c.loop-left.invariant.0 (omega arith) in (
-      omega arith,
-      omega arith,
+    let m = c.loop-kind in
+    let more : 0 < 9 - m.kind = omega arith in
+    let one : 1 ≤ m.kind = omega arith in
+    let most : m.kind ≤ 8 = omega arith in
+    let place = m.invariant.3 m.kind one most in
+    let next : 9 - m.kind - 1 ≡ 9 - (m.kind + 1) = omega arith in
+    rw (← next) (
       elim c.if-place.branch [ then-place w ↦ omega arith | else-place w ↦ omega arith ],
       elim c.if-place.branch [
-        | then-place w ↦ subst modest (sym (w.counts-is ∙ w.grow-counts.ensures)) (modest-set c.loop-left.counts _ _ c.loop-left.invariant.3)
-        | else-place w ↦ subst modest (sym w.counts-is) c.loop-left.invariant.3
+        | then-place w ↦ subst modest (sym (w.counts-is ∙ w.grow-counts.ensures)) (modest-set m.counts _ _ m.invariant.1)
+        | else-place w ↦ subst modest (sym w.counts-is) m.invariant.1
       ],
-      c.loop-left.invariant.4,
-      c.loop-left.invariant.5,
+      m.invariant.2,
+      m.invariant.3,
       elim c.if-place.branch [
         | then-place w ↦
-            sym (count-here _ _ _ _ c.loop-left.invariant.4 _ place _ _ more w.if-place.true c.loop-left.invariant.0 (omega arith) _ w.word.ensures _ (w.counts-is ∙ w.grow-counts.ensures))
+            sym (count-here _ _ _ _ m.invariant.2 _ place _ _ more w.if-place.true one most _ w.word.ensures _ (w.counts-is ∙ w.grow-counts.ensures))
         | else-place w ↦
-            ap (λ ms. grown_all ms (kept_from es (c.loop-left.left - 1) (c.loop-left.kind + 1))) w.counts-is
-            ∙ ap (grown_all c.loop-left.counts) (sym (none_here _ _ _ _ c.loop-left.invariant.4 _ place c.loop-left.counts _ more c.requires.n_in_bounds.1 w.if-place.false))
+            ap (λ ms. grown_all ms (kept_from es (9 - m.kind - 1) (m.kind + 1))) w.counts-is
+            ∙ ap (grown_all m.counts) (sym (none_here _ _ _ _ m.invariant.2 _ place m.counts _ more c.requires.n_in_bounds.1 w.if-place.false))
       ]
-          ∙ c.loop-left.invariant.6,
+          ∙ m.invariant.4,
       elim c.if-place.branch [
-        | then-place w ↦ omega (arith, w.tables-is, c.loop-left.invariant.7, tables-here _ _ _ _ c.loop-left.invariant.4 _ place c.loop-left.counts _ more w.if-place.true)
+        | then-place w ↦ omega (arith, w.tables-is, m.invariant.5, tables-here _ _ _ _ m.invariant.2 _ place m.counts _ more w.if-place.true)
         | else-place w ↦
-            omega (arith, w.tables-is, c.loop-left.invariant.7, ap (λ ts. length ts) (none_here _ _ _ _ c.loop-left.invariant.4 _ place c.loop-left.counts _ more c.requires.n_in_bounds.1 w.if-place.false))
+            omega (arith, w.tables-is, m.invariant.5, ap (λ ts. length ts) (none_here _ _ _ _ m.invariant.2 _ place m.counts _ more c.requires.n_in_bounds.1 w.if-place.false))
       ],
     )

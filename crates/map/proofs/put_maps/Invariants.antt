@@ -1,8 +1,7 @@
 -- The invariant: what is left decides. The maps that are left, laid from here, make the area what it shall be, and are fine.
 use Rattle.std.specs.Prelude.{Ok}
-use Prim.Native.Nat.{◌+◌, ◌*◌, ◌≤◌}
+use Prim.Native.Nat.{◌+◌, ◌-◌, ◌*◌}
 use mathlib.Core.Path.{◌≡◌}
-use lib.ListN.{length}
 use Rattle.blob.specs.Laid.{laid}
 use Rattle.blob.specs.Reading.{run, verdict, values}
 use Rattle.format.specs.Area.{MAPS, width}
@@ -11,14 +10,9 @@ use Rattle.map.specs.Listed.{listed}
 use Rattle.map.specs.Next.{unread, maps_words}
 use Rattle.map.proofs.put_maps.Given as goal
 
-abbrev pub invariant-loop-left : goal.invariant-loop-left
-invariant-loop-left l =
-    (l.place + 4 * l.left ≤ length l.b)
-    × (l.to + width MAPS * l.left ≤ length l.area)
-    × (length l.area ≡ length l.initial.area)
-    × (verdict (unread l.end l.start l.first l.b l.left l.place) ≡ Ok tt)
-    × (l.entries + entry_count (values (unread l.end l.start l.first l.b l.left l.place)) ≡ l.before + entry_count (values (run (listed l.end l.start l.n) l.b)))
-    × (laid l.initial.area 0 (maps_words l.before (values (run (listed l.end l.start l.n) l.b))) ≡ laid l.area l.to (maps_words l.entries (values (unread l.end l.start l.first l.b l.left l.place))))
-
-abbrev pub decreases-loop-left : goal.decreases-loop-left
-decreases-loop-left l = l.left
+abbrev pub invariant-loop-i : goal.invariant-loop-i
+invariant-loop-i l =
+    (verdict (unread l.end l.start l.first l.b (l.n - l.i) (l.start + 4 * l.i)) ≡ Ok tt)
+    × (l.entries + entry_count (values (unread l.end l.start l.first l.b (l.n - l.i) (l.start + 4 * l.i))) ≡ l.before + entry_count (values (run (listed l.end l.start l.n) l.b)))
+    × (laid l.initial.area 0 (maps_words l.before (values (run (listed l.end l.start l.n) l.b)))
+    ≡ laid l.area (width MAPS * l.i) (maps_words l.entries (values (unread l.end l.start l.first l.b (l.n - l.i) (l.start + 4 * l.i)))))
