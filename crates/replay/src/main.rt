@@ -152,7 +152,9 @@ fn first_off<T: Unsigned>(found: &[T], right: &[T]) -> usize
     ensures { result ≡ off (map T.value found.now) (map T.value right.now) (length found.now) 0 }
 {
     for at in 0..found.len() {
-        if found[at].wide() != right[at].wide() {
+        let a = found[at];
+        let b = right[at];
+        if a.wide() != b.wide() {
             return at;
         }
     }
