@@ -1,11 +1,10 @@
 -- Laws of rendering.
 use Rattle.std.specs.Prelude.{ℕ, zero, suc, ◌+◌, ◌*◌, ◌/◌, ◌%◌, ◌^◌, ◌-◌, ◌≤◌, ◌<◌, ◌≡◌, refl, Bool, true, false, List, [], ◌∷◌, ◌++◌, length, leb}
-use Rattle.std.proofs.Common.{ap, sym, ◌∙◌, arith, pow-suc, append-nil, length-append, length-take, length-drop, lt-ltb, le-ltb, leb-true, leb-false}
+use Rattle.std.proofs.Common.{ap, sym, ◌∙◌, arith, pow-suc, length-append, lt-ltb, le-ltb, leb-true, leb-false}
 use Rattle.std.proofs.Math.Nat.{pow-le-pow_right}
 use Rattle.std.proofs.Math.Numerals.{unary_clauses}
 use Rattle.io.specs.Digits as io
-use Rattle.blob.specs.Laid.{laid, laid_more, laid-between, laid-area, flat}
-use borrow.Rule.Slice.PartMut.{mid_of, put_mid}
+use Rattle.blob.specs.Laid.{laid, laid_more, flat}
 use Rattle.format.specs.Area.{TEMPLATES, width}
 use Rattle.listing.specs.Rendered.{digits, decimal, line, rendered}
 use Rattle.listing.specs.Put.{Put, line_at, lines_from}
@@ -17,21 +16,6 @@ put_behind {a} {b} {c} {at} {p} {q} {s} {t} f g =
       ends = simp length-append (omega (arith, f.ends, g.ends));
       holds = g.holds ∙ ap (λ n. laid b n t) f.ends ∙ ap (λ (l : List ℕ). laid l (at + length s) t) f.holds ∙ sym (laid_more a at s t);
     }
-
--- words laid into as many are all that is there, as where they are copied over them
-laid-whole : (a ws : List ℕ) → length a ≡ length ws → laid a 0 ws ≡ ws
-unfolding laid
-laid-whole [] [] h = refl
-laid-whole [] (w ∷ ws) h = absurd (omega arith)
-laid-whole (x ∷ a) [] h = absurd (omega arith)
-laid-whole (x ∷ a) (w ∷ ws) h =
-    sym (simp append-nil at (laid-between (w ∷ []) a [] 0 ws (omega arith))) ∙ ap (λ (l : List ℕ). w ∷ l) (laid-whole a ws (omega arith))
-
-pub laid-copied : (lent : List ℕ) (from to : ℕ) (ws area : List ℕ) → from + length ws ≡ to → to ≤ length lent → area ≡ ws
-    → put_mid from (to - from) lent area ≡ laid lent from ws
-laid-copied lent from to ws area h k e =
-    let m : length (mid_of from (to - from) lent) ≡ length ws = simp (length-take, length-drop) (omega arith) in
-    laid-area lent from to ws area (omega arith) k (omega arith) (e ∙ sym (laid-whole (mid_of from (to - from) lent) ws m))
 
 -- the fewest digits that hold a number are its digits
 spelled : (k most n : ℕ) → n < most → n < 10 ^ suc k → (1 ≤ k → 10 ^ k ≤ n) → io.last_digits 10 (suc k) n ≡ digits most n

@@ -1,6 +1,6 @@
 -- What is copied over a range is laid from its start on.
 use Rattle.std.proofs.Common.{arith, refl}
-use Rattle.listing.specs.Laws.{laid-copied}
+use Rattle.blob.specs.Laid.{laid-copied}
 use Rattle.listing.proofs.put.Goals as goal
 
 pub returns : goal.returns
