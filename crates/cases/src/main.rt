@@ -11,7 +11,7 @@ use format::Answer;
 use format::list::{AREAS, EACH};
 use std::array;
 
-// Standard input and standard output, as the system numbers them.
+// Standard input and standard output, as the system numbers them. Printing by std would rest on two more functions of the C library.
 const STDIN_FILENO: i32 = 0;
 
 const STDOUT_FILENO: i32 = 1;
