@@ -9,8 +9,9 @@ ghost use Rattle.format.specs.Area.{AREAS};
 
 use format::Answer;
 use format::list::{AREAS, EACH};
+use std::array;
 
-// Standard input and standard output, as the system numbers them.
+// Standard input and standard output, as the system numbers them. Printing by std would rest on two more functions of the C library.
 const STDIN_FILENO: i32 = 0;
 
 const STDOUT_FILENO: i32 = 1;
@@ -25,10 +26,6 @@ const RECORD: usize = BLOB + 512;
 // The lent words: an area of 64 entries for each list.
 const WORDS: usize = 64 * EACH;
 
-fn wide(x: u32) -> u64 {
-    x as u64
-}
-
 fn say(text: &[u8], n: u64) {
     io::write_all(STDOUT_FILENO, text);
     io::print_decimal(STDOUT_FILENO, n);
@@ -38,32 +35,21 @@ fn say_line_end() {
     io::write_all(STDOUT_FILENO, b"\n");
 }
 
-fn say_word(n: u32) {
-    say(b" ", wide(n));
-}
-
 fn say_words(words: &[u32]) {
-    let mut i = 0;
-    while i < words.len() {
-        say_word(words[i]);
-        i += 1;
+    for n in words {
+        say(b" ", u64::from(*n));
     }
-}
-
-fn say_counts(c: [u32; AREAS]) {
-    say_words(&c);
 }
 
 fn say_answer(name: &[u8], a: Answer) {
     io::write_all(STDOUT_FILENO, name);
-    say(b": code ", a.code as u64);
-    say(b" field ", a.field as u64);
+    say(b": code ", u64::from(a.code));
+    say(b" field ", u64::from(a.field));
     say(b" at ", a.place);
     say(b": ", a.first);
     say(b", ", a.second);
     io::write_all(STDOUT_FILENO, b"; counts");
-    let counts = a.counts;
-    say_counts(counts);
+    say_words(&a.counts);
     say_line_end();
 }
 
@@ -74,7 +60,7 @@ fn say_list(row: usize, words: &[u32], n: [u32; AREAS], capacities: [u32; AREAS]
     let from = counts::area_at(capacities, row);
     let to = from + counts::words_of(n[row], row);
     if from < to && to <= words.len() {
-        say(b"  list ", wide(counts::number_of(row)));
+        say(b"  list ", u64::from(counts::number_of(row)));
         io::write_all(STDOUT_FILENO, b":");
         say_words(&words[from..to]);
         say_line_end();
@@ -82,10 +68,8 @@ fn say_list(row: usize, words: &[u32], n: [u32; AREAS], capacities: [u32; AREAS]
 }
 
 fn say_lists(words: &[u32], n: [u32; AREAS], capacities: [u32; AREAS]) {
-    let mut row = 0;
-    while row < AREAS {
+    for row in 0..AREAS {
         say_list(row, words, n, capacities);
-        row += 1;
     }
 }
 
@@ -94,21 +78,14 @@ fn show(name: &[u8], blob: &[u8], capacities: [u32; AREAS]) {
     let a = manifest::read(blob, &mut words, capacities);
     say_answer(name, a);
     if a.code == 0 {
-        let counts = a.counts;
-        say_lists(&words, counts, capacities);
+        say_lists(&words, a.counts, capacities);
     }
 }
 
 fn capacities(row: &[u8]) -> [u32; AREAS]
     requires { 8 + 4 * AREAS ≤ length row.now }
 {
-    let mut c = [0; AREAS];
-    let mut i = 0;
-    while i < AREAS {
-        c[i] = blob::word(row, 8 + 4 * i);
-        i += 1;
-    }
-    c
+    array::from_fn(|i| blob::word(row, 8 + 4 * i))
 }
 
 fn say_broken() {
@@ -150,8 +127,9 @@ fn step() -> bool {
 
 // No contract says that the input ends, and a loop must be seen to end: so the records are counted, up to a number that no run reaches.
 fn main() {
-    let mut number: u64 = 0;
-    while number < u64::MAX && step() {
-        number += 1;
+    for _ in 0..u64::MAX {
+        if !step() {
+            break;
+        }
     }
 }

@@ -1,14 +1,13 @@
 -- What the proofs of a call rest on.
-use Prim.Native.Nat.{ℕ, suc, ◌+◌, ◌≤◌, ◌<◌}
-use Rattle.std.specs.Prelude.{Bool, true, false, ◌&&◌, ◌≡◌, refl, List, [], ◌∷◌, length, get_or, drop, set, leb, eqb}
-use Rattle.std.proofs.Common.{ap, sym, ◌∙◌, append-nil, drop_of_length-le, drop-cons, eqb-true}
+use Prim.Native.Nat.{ℕ}
+use Rattle.std.specs.Prelude.{Bool, true, false, ◌≡◌, refl, List, [], ◌∷◌, length, leb}
+use Rattle.std.proofs.Common.{ap, sym, ◌∙◌, append-nil}
 use native.Mathlib.Omega.{arith}
 use Rattle.blob.specs.Laid.{laid, laid-between}
 use Rattle.blob.specs.Reading.{refused, choose}
-use Rattle.format.specs.Area.{AREAS}
 use Rattle.format.specs.Answer.{answer, needing, held, own}
 use Rattle.format.proofs.Theorems.Determined.{needs_refused}
-use Rattle.format.specs.Call.{misfit, each_row}
+use Rattle.format.specs.Call.{misfit}
 
 -- numbers laid into as many are all that is there
 pub laid-whole : (a ws : List ℕ) → length a ≡ length ws → laid a 0 ws ≡ ws
@@ -18,24 +17,6 @@ laid-whole [] (w ∷ ws) h = absurd (omega arith)
 laid-whole (x ∷ a) [] h = absurd (omega arith)
 laid-whole (x ∷ a) (w ∷ ws) h =
     sym (simp append-nil at (laid-between (w ∷ []) a [] 0 ws (omega arith))) ∙ ap (λ (l : List ℕ). w ∷ l) (laid-whole a ws (omega arith))
-
--- of some numbers, those from one on: the next is laid before the rest
-module _ (a told : List ℕ) (i : ℕ) where
-  pub laid-rest : i < length told → (x : ℕ) → x ≡ get_or told i 0 → laid a i (drop i told) ≡ laid (set a i x) (i + 1) (drop (i + 1) told)
-  unfolding laid
-  laid-rest h x e = let n : suc i ≡ i + 1 = omega arith in rw (drop-cons told i 0 h, e, n)
-
-  pub laid_none : length told ≤ i → laid a i (drop i told) ≡ a
-  unfolding laid
-  laid_none h = rw (drop_of_length-le told {i = i} h)
-
--- a capacity and a count for each row
-pub rows_of : (capacities counts : List ℕ) → each_row capacities counts ≡ true → (length capacities ≡ AREAS) × (length counts ≡ AREAS)
-rows_of capacities counts e = go (eqb (length capacities) AREAS) refl e
-  where
-    go : (b : Bool) → eqb (length capacities) AREAS ≡ b → (b && eqb (length counts) AREAS) ≡ true → (length capacities ≡ AREAS) × (length counts ≡ AREAS)
-    go true p q = (eqb-true _ _ p, eqb-true _ _ q)
-    go false p q = absurd (let z : ◌≡◌ {A = ℕ} 0 1 = cc in omega arith)
 
 -- a call that misfits touches no word
 pub misfit-keeps : (words : List ℕ) (capacities : List ℕ) (bytes : List ℕ) → words ≡ held words capacities (misfit bytes)

@@ -1,7 +1,7 @@
 // `read`, `needs`, the lookups and the index over lent runs of numbers. The crate ducatfeather_c hands the public functions to C.
 #![tactic(auto)]
 
-ghost use Rattle.std.specs.Prelude.{◌≡◌, ◌∷◌, length, get_or};
+ghost use Rattle.std.specs.Prelude.{◌≡◌, ◌<◌, length, get_or};
 ghost use Rattle.format.specs.Area.{AREAS};
 ghost use Rattle.format.specs.Answer as spec;
 ghost use Rattle.format.specs.Lookup as right;
@@ -23,7 +23,7 @@ fn for_lists(numbers: &[u32]) -> [u32; AREAS]
     ensures { result ≡ numbers.now }
 {
     let mut all = [0; AREAS];
-    words::put(&mut all, 0, numbers);
+    all.copy_from_slice(numbers);
     all
 }
 
@@ -52,9 +52,9 @@ fn read(blob: &[u8], words: &mut [u32], capacities: &[u32], n: usize) -> Answer
     manifest::read(blob, words, for_lists(capacities))
 }
 
-// The numbers of an answer, with its counts.
-fn numbers(a: Answer, counts: [u32; AREAS]) -> [u64; NUMBERS]
-    ensures { result ≡ a.code ∷ a.field ∷ a.place ∷ a.first ∷ a.second ∷ counts }
+// The numbers of an answer.
+fn numbers(a: Answer) -> [u64; NUMBERS]
+    ensures { result ≡ call.numbers a }
 {
     let mut all = [0; NUMBERS];
     all[0] = a.code as u64;
@@ -62,26 +62,23 @@ fn numbers(a: Answer, counts: [u32; AREAS]) -> [u64; NUMBERS]
     all[2] = a.place;
     all[3] = a.first;
     all[4] = a.second;
-    let mut i = 0;
-    while i < AREAS {
-        all[5 + i] = counts[i] as u64;
-        i += 1;
+    for i in 0..AREAS {
+        all[5 + i] = a.counts[i] as u64;
     }
     all
 }
 
-// Stores an answer's numbers where as many are lent.
-fn tell(lent: &mut [u64], told: &[u64])
-    ensures { lent.new ≡ call.told lent.old told.now }
+// Stores an answer's numbers where as many are lent; hands back the first, its code.
+#[tactic(auto, unfolding(format::specs::Call::told))]
+fn tell(lent: &mut [u64], told: &[u64]) -> u32
+    requires { (0 < length told.now) × (get_or told.now 0 0 < 4294967296) }
+    ensures code { result ≡ get_or told.now 0 0 }
+    ensures lent_after { lent.new ≡ call.told lent.old told.now }
 {
-    if lent.len() != told.len() {
-        return;
+    if lent.len() == told.len() {
+        lent.copy_from_slice(told);
     }
-    let mut i = 0;
-    while i < told.len() {
-        lent[i] = told[i];
-        i += 1;
-    }
+    told[0] as u32
 }
 
 // Reads the block in a lent blob into lent words; include/ducatfeather.h says it in C.
@@ -89,9 +86,7 @@ pub fn ducat_read(blob: &[u8], words: &mut [u32], capacities: &[u32], answer: &m
     ensures { call.AllowedRead blob.now words.old capacities.now answer.old result words.new answer.new }
 {
     let a = read(blob, words, capacities, answer.len());
-    let counts = a.counts;
-    tell(answer, &numbers(a, counts));
-    a.code as u32
+    tell(answer, &numbers(a))
 }
 
 // What each list needs, with n numbers to store the answer in.
@@ -110,19 +105,14 @@ pub fn ducat_needs(blob: &[u8], answer: &mut [u64]) -> u32
     ensures { call.AllowedNeeds blob.now answer.old result answer.new }
 {
     let a = needs(blob, answer.len());
-    let counts = a.counts;
-    tell(answer, &numbers(a, counts));
-    a.code as u32
+    tell(answer, &numbers(a))
 }
 
 // Whether there are a capacity and a count for each row.
 fn each_row(capacities: &[u32], counts: &[u32]) -> bool
     ensures { result ≡ call.each_row capacities.now counts.now }
 {
-    if capacities.len() != AREAS {
-        return false;
-    }
-    counts.len() == AREAS
+    capacities.len() == AREAS && counts.len() == AREAS
 }
 
 // A provider's template at an offset, with n numbers to store the answer in.
@@ -158,23 +148,13 @@ fn template_at(
 
 // Its six numbers.
 fn template_numbers(f: TemplateFound) -> [u64; 6]
-    ensures { result ≡ call.template_numbers f }
+    ensures numbers { result ≡ call.template_numbers f }
+    ensures code { get_or result 0 0 < 4294967296 }
 {
     match f {
         TemplateFound::Number(n) => [0, 0, 0, 0, 1, n as u64],
         TemplateFound::Nothing => [0, 0, 0, 0, 0, 0],
         TemplateFound::Refused(r) => [r.code as u64, r.place, r.first, r.second, 0, 0],
-    }
-}
-
-// Its code.
-fn template_code(f: TemplateFound) -> u32
-    ensures { result ≡ get_or (call.template_numbers f) 0 0 }
-{
-    match f {
-        TemplateFound::Number(_) => 0,
-        TemplateFound::Nothing => 0,
-        TemplateFound::Refused(r) => r.code as u32,
     }
 }
 
@@ -201,8 +181,7 @@ pub fn ducat_template_at(
         offset,
         answer.len(),
     );
-    tell(answer, &template_numbers(f));
-    template_code(f)
+    tell(answer, &template_numbers(f))
 }
 
 // A key of twelve words.
@@ -261,21 +240,12 @@ fn templates_for(
 
 // Its five numbers.
 fn guid_numbers(f: GuidsFound) -> [u64; 5]
-    ensures { result ≡ call.guid_numbers f }
+    ensures numbers { result ≡ call.guid_numbers f }
+    ensures code { get_or result 0 0 < 4294967296 }
 {
     match f {
         GuidsFound::Given(n) => [0, 0, 0, 0, n as u64],
         GuidsFound::Refused(r) => [r.code as u64, r.place, r.first, r.second, 0],
-    }
-}
-
-// Its code.
-fn guid_code(f: GuidsFound) -> u32
-    ensures { result ≡ get_or (call.guid_numbers f) 0 0 }
-{
-    match f {
-        GuidsFound::Given(_) => 0,
-        GuidsFound::Refused(r) => r.code as u32,
     }
 }
 
@@ -291,8 +261,7 @@ pub fn ducat_templates_for(
     ensures { call.AllowedGuids words.now capacities.now counts.now key.now guids.old answer.old result guids.new answer.new }
 {
     let f = templates_for(words, capacities, counts, key, guids, answer.len());
-    tell(answer, &guid_numbers(f));
-    guid_code(f)
+    tell(answer, &guid_numbers(f))
 }
 
 // The words of an index, with n numbers to store the answer in.
@@ -330,7 +299,8 @@ fn index_write(
 
 // Its five numbers.
 fn index_numbers(a: Result<usize, Refusal>) -> [u64; 5]
-    ensures { result ≡ called.index_numbers a }
+    ensures numbers { result ≡ called.index_numbers a }
+    ensures code { get_or result 0 0 < 4294967296 }
 {
     match a {
         Ok(n) => [0, 0, 0, 0, n as u64],
@@ -338,31 +308,12 @@ fn index_numbers(a: Result<usize, Refusal>) -> [u64; 5]
     }
 }
 
-// Its code.
-fn index_code(a: Result<usize, Refusal>) -> u32
-    ensures { result ≡ get_or (called.index_numbers a) 0 0 }
-{
-    match a {
-        Ok(_) => 0,
-        Err(r) => r.code as u32,
-    }
-}
-
-// Stores the numbers where as many are lent; hands back the code.
-fn index_told(a: Result<usize, Refusal>, answer: &mut [u64]) -> u32
-    ensures value { result ≡ get_or (called.index_numbers a) 0 0 }
-    ensures answer_after { answer.new ≡ call.told answer.old (called.index_numbers a) }
-{
-    tell(answer, &index_numbers(a));
-    index_code(a)
-}
-
 // Reads an index back: its numbers, as words.
 pub fn ducat_index_read(bytes: &[u8], numbers: &mut [u32], answer: &mut [u64]) -> u32
     ensures { called.AllowedCall (called.called_read bytes.now numbers.old (length answer.old)) numbers.old answer.old result numbers.new answer.new }
 {
     let a = index_read(bytes, numbers, answer.len());
-    index_told(a, answer)
+    tell(answer, &index_numbers(a))
 }
 
 // Writes the index of the lists of a reading.
@@ -376,5 +327,5 @@ pub fn ducat_index_write(
     ensures { called.AllowedCall (called.called_write words.now capacities.now counts.now bytes.old (length answer.old)) bytes.old answer.old result bytes.new answer.new }
 {
     let a = index_write(words, capacities, counts, bytes, answer.len());
-    index_told(a, answer)
+    tell(answer, &index_numbers(a))
 }

@@ -1,6 +1,6 @@
 -- Laws of rendering.
-use Rattle.std.specs.Prelude.{ℕ, zero, suc, ◌+◌, ◌*◌, ◌/◌, ◌%◌, ◌^◌, ◌-◌, ◌≤◌, ◌<◌, ◌≡◌, refl, Bool, true, false, List, [], ◌∷◌, ◌++◌, length, get_or, drop, set, leb}
-use Rattle.std.proofs.Common.{ap, sym, ◌∙◌, arith, pow-suc, add-one, length-append, drop_of_length-le, drop-cons, lt-ltb, le-ltb, leb-true, leb-false}
+use Rattle.std.specs.Prelude.{ℕ, zero, suc, ◌+◌, ◌*◌, ◌/◌, ◌%◌, ◌^◌, ◌-◌, ◌≤◌, ◌<◌, ◌≡◌, refl, Bool, true, false, List, [], ◌∷◌, ◌++◌, length, leb}
+use Rattle.std.proofs.Common.{ap, sym, ◌∙◌, arith, pow-suc, length-append, lt-ltb, le-ltb, leb-true, leb-false}
 use Rattle.std.proofs.Math.Nat.{pow-le-pow_right}
 use Rattle.std.proofs.Math.Numerals.{unary_clauses}
 use Rattle.io.specs.Digits as io
@@ -16,17 +16,6 @@ put_behind {a} {b} {c} {at} {p} {q} {s} {t} f g =
       ends = simp length-append (omega (arith, f.ends, g.ends));
       holds = g.holds ∙ ap (λ n. laid b n t) f.ends ∙ ap (λ (l : List ℕ). laid l (at + length s) t) f.holds ∙ sym (laid_more a at s t);
     }
-
--- a byte stored, and the bytes behind it still to be laid
-pub laid_next : (out bytes : List ℕ) (at i : ℕ) → i < length bytes
-    → laid (set out (at + i) (get_or bytes i 0)) (at + (i + 1)) (drop (i + 1) bytes) ≡ laid out (at + i) (drop i bytes)
-unfolding laid
-laid_next out bytes at i h = let e : at + (i + 1) ≡ (at + i) + 1 = omega arith in rw (drop-cons bytes i 0 h, e, add-one i)
-
--- none is left behind the last
-pub laid_none : (out bytes : List ℕ) (at i : ℕ) → length bytes ≤ i → laid out at (drop i bytes) ≡ out
-unfolding laid
-laid_none out bytes at i h = rw (drop_of_length-le bytes h)
 
 -- the fewest digits that hold a number are its digits
 spelled : (k most n : ℕ) → n < most → n < 10 ^ suc k → (1 ≤ k → 10 ^ k ≤ n) → io.last_digits 10 (suc k) n ≡ digits most n
@@ -57,17 +46,20 @@ twenty n k h f = go (leb k 20) refl
         let p : 10 ^ 20 ≤ 10 ^ (k - 1) = pow-le-pow_right (omega arith) {i = 20} (omega arith) in
         omega (arith, f.2 (omega arith))
 
--- the line of the entry at a place, and those of the entries behind it
-pub lines_more : (words : List ℕ) (left at : ℕ) → 0 < left
-    → rendered (lines_from words left at) ≡ line (line_at words at) ++ rendered (lines_from words (left - 1) (at + width TEMPLATES))
+-- the line of the i-th of n entries, and those of the entries behind it
+pub lines_next : (words : List ℕ) (n i at : ℕ) → i < n
+    → rendered (lines_from words (n - i) (at + width TEMPLATES * i))
+    ≡ line (line_at words (at + width TEMPLATES * i)) ++ rendered (lines_from words (n - (i + 1)) (at + width TEMPLATES * (i + 1)))
 unfolding lines_from flat
-lines_more words left at h =
-    let e : left ≡ suc (left - 1) = omega arith in
-    ap (λ n. rendered (lines_from words n at)) e
+lines_next words n i at h =
+    let e : n - i ≡ suc (n - (i + 1)) = omega arith in
+    let f : at + width TEMPLATES * i + width TEMPLATES ≡ at + width TEMPLATES * (i + 1) = omega arith in
+    ap (λ n. rendered (lines_from words n (at + width TEMPLATES * i))) e
+    ∙ ap (λ p. line (line_at words (at + width TEMPLATES * i)) ++ rendered (lines_from words (n - (i + 1)) p)) f
 
-pub lines_none : (words : List ℕ) (left at : ℕ) → left ≤ 0 → rendered (lines_from words left at) ≡ []
+pub lines_none : (words : List ℕ) (n i at : ℕ) → n ≤ i → rendered (lines_from words (n - i) at) ≡ []
 unfolding lines_from flat
-lines_none words left at h = let e : left ≡ 0 = omega arith in ap (λ n. rendered (lines_from words n at)) e
+lines_none words n i at h = let e : n - i ≡ 0 = omega arith in ap (λ n. rendered (lines_from words n at)) e
 
 -- nothing put
 pub put_none : {a : List ℕ} {at : ℕ} → Put a at [] at a

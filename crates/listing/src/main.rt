@@ -35,12 +35,9 @@ fn put(bytes: &[u8], out: &mut [u8], at: usize) -> usize
     requires { at + length bytes.now ≤ length out.old }
     ensures { Put out.old at bytes.now result out.new }
 {
-    let mut i = 0;
-    while i < bytes.len() {
-        out[at + i] = bytes[i];
-        i += 1;
-    }
-    at + i
+    let end = at + bytes.len();
+    out[at..end].copy_from_slice(bytes);
+    end
 }
 
 // The same of a number in decimal.
@@ -99,14 +96,8 @@ fn put_refusal(code: u64, place: u64, out: &mut [u8]) -> usize
     put(b"\n", out, to)
 }
 
-// A word as a number.
-fn wide(x: u32) -> u64
-    ensures { result ≡ x }
-{
-    x as u64
-}
-
 // The same of the line of an accepted block.
+#[tactic(auto, unfolding(crate::specs::Rendered::line))]
 fn put_block(size: u64, counts: [u32; AREAS], out: &mut [u8]) -> usize
     requires { 116 ≤ length out.old }
     ensures put { Put out.old 0 (lineBytes (block_line size (of PROVIDERS counts) (of EVENTS counts) (of TEMPLATES counts))) result out.new }
@@ -116,11 +107,11 @@ fn put_block(size: u64, counts: [u32; AREAS], out: &mut [u8]) -> usize
         b"crim ",
         size,
         b" providers ",
-        wide(counts[row::PROVIDERS]),
+        counts[row::PROVIDERS] as u64,
         b" events ",
-        wide(counts[row::EVENTS]),
+        counts[row::EVENTS] as u64,
         b" templates ",
-        wide(counts[row::TEMPLATES]),
+        counts[row::TEMPLATES] as u64,
         out,
         0,
     )
@@ -133,35 +124,33 @@ fn put_template(words: &[u32], from: usize, out: &mut [u8], at: usize) -> usize
     ensures put { Put out.old at (lineBytes (line_at words.now from)) result out.new }
     ensures upper_bound { result ≤ at + 135 }
 {
-    let to = put_number(b"template ", wide(words[from + TEMPLATE_OFFSET]), out, at);
+    let to = put_number(b"template ", words[from + TEMPLATE_OFFSET] as u64, out, at);
     put_line(
         b" provider ",
-        wide(words[from + TEMPLATE_PROVIDER]),
+        words[from + TEMPLATE_PROVIDER] as u64,
         b" size ",
-        wide(words[from + TEMPLATE_SIZE]),
+        words[from + TEMPLATE_SIZE] as u64,
         b" binxml ",
-        wide(words[from + TEMPLATE_START]),
+        words[from + TEMPLATE_START] as u64,
         b" ",
-        wide(words[from + TEMPLATE_LENGTH]),
+        words[from + TEMPLATE_LENGTH] as u64,
         out,
         to,
     )
 }
 
 // The same of n template entries, one behind the other.
+#[tactic(auto, unfolding(format::specs::Answer::areas))]
 fn put_templates(words: &[u32], n: u32, out: &mut [u8], at: usize) -> usize
     requires n_in_bounds { templates_at + width TEMPLATES * n ≤ length words.now }
     requires n_in_bounds_2 { at + 135 * n ≤ length out.old }
     ensures put { Put out.old at (rendered (lines_from words.now n templates_at)) result out.new }
     ensures upper_bound { result ≤ at + 135 * n }
 {
-    let mut from = counts::area_at([CAPACITY; AREAS], row::TEMPLATES);
-    let mut left = n;
+    let from = counts::area_at([CAPACITY; AREAS], row::TEMPLATES);
     let mut to = at;
-    while 0 < left {
-        to = put_template(words, from, out, to);
-        from += width::TEMPLATES;
-        left -= 1;
+    for i in 0..n as usize {
+        to = put_template(words, from + width::TEMPLATES * i, out, to);
     }
     to
 }
@@ -172,9 +161,8 @@ fn put_accepted(a: Answer, words: &[u32], out: &mut [u8]) -> usize
     ensures put { Put out.old 0 (accepted_text a words.now) result out.new }
     ensures upper_bound { result ≤ 9216 }
 {
-    let counts = a.counts;
-    let to = put_block(a.first, counts, out);
-    put_templates(words, counts[row::TEMPLATES], out, to)
+    let to = put_block(a.first, a.counts, out);
+    put_templates(words, a.counts[row::TEMPLATES], out, to)
 }
 
 // Reads the block with 64 entries a list.

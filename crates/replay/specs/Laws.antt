@@ -1,6 +1,6 @@
 -- How a comparison goes on: what is left decides.
-use Rattle.std.specs.Prelude.{ℕ, suc, ◌+◌, ◌-◌, ◌≤◌, ◌<◌, ◌≡◌, List, ◌++◌, length, get_or, take, drop}
-use Rattle.std.proofs.Common.{arith, length-append, length-take, length-drop, eq-eqb, ne_eqb}
+use Rattle.std.specs.Prelude.{ℕ, suc, ◌+◌, ◌-◌, ◌≤◌, ◌<◌, ◌≡◌, List, get_or}
+use Rattle.std.proofs.Common.{arith, eq-eqb, ne_eqb}
 use Rattle.replay.specs.Off.{off}
 
 -- nothing is left behind the last
@@ -21,7 +21,3 @@ module _ (a b : List ℕ) (n at : ℕ) (h : at < n) where
   pub off-here : (get_or a at 0 ≡ get_or b at 0 → ⊥) → at ≡ off a b (n - at) at
   unfolding off
   off-here e = rw one_more (simp (ne_eqb _ _ e))
-
--- a buffer keeps its length when its first bytes are read anew
-pub length-read : (n : ℕ) (b l : List ℕ) → length l ≡ length (take n b) → length (l ++ drop n b) ≡ length b
-length-read n b l h = simp (length-append, length-drop) (omega (arith, simp length-take at h))

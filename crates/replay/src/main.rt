@@ -4,13 +4,14 @@
 // Blobs, numbers of an answer and lent words are counted from 0.
 #![tactic(auto)]
 
-ghost use Rattle.std.specs.Prelude.{◌≡◌, ◌+◌, ◌*◌, ◌≤◌, ◌<◌, length};
+ghost use Rattle.std.specs.Prelude.{◌≡◌, ℕ, ◌+◌, ◌*◌, ◌≤◌, ◌<◌, length, map};
 ghost use Rattle.format.specs.Area.{AREAS, WIDEST};
 ghost use Rattle.replay.specs.Off.{off};
 
 use format::list::{AREAS, WIDEST};
+use std::array;
 
-// Standard input and standard output, as the system numbers them.
+// Standard input and standard output, as the system numbers them. Printing by std would rest on two more functions of the C library.
 const STDIN_FILENO: i32 = 0;
 
 const STDOUT_FILENO: i32 = 1;
@@ -37,10 +38,8 @@ const KEPT: u32 = 0xA5C3_5A3C;
 fn put(bytes: &[u8], to: &mut [u32])
     requires { 4 * length to.old ≤ length bytes.now }
 {
-    let mut i = 0;
-    while i < to.len() {
-        to[i] = blob::word(bytes, 4 * i);
-        i += 1;
+    for (i, w) in to.iter_mut().enumerate() {
+        *w = blob::word(bytes, 4 * i);
     }
 }
 
@@ -86,13 +85,11 @@ fn fetch_lists(told: &[u32; TOLD], words: &mut [u32]) -> bool
     requires { AREAS * (64 * WIDEST) ≤ length words.old }
 {
     let mut from = 0;
-    let mut row = 0;
-    while row < AREAS {
+    for row in 0..AREAS {
         if !fetch_list(words, from, told[7 + row], row) {
             return false;
         }
         from += size(CAPACITY, row);
-        row += 1;
     }
     true
 }
@@ -101,7 +98,7 @@ fn fetch_lists(told: &[u32; TOLD], words: &mut [u32]) -> bool
 fn wide(low: u32, high: u32) -> u64
     ensures { result ≡ low + 4294967296 * high }
 {
-    (low as u64) + 4294967296 * (high as u64)
+    u64::from(low) + 4294967296 * u64::from(high)
 }
 
 // A number that a record tells: first and second are of two words each.
@@ -122,43 +119,46 @@ fn number(w: &[u32; TOLD], i: usize) -> u64
 
 // All of them.
 fn numbers(w: &[u32; TOLD]) -> [u64; NUMBERS] {
-    let mut all = [0; NUMBERS];
-    let mut i = 0;
-    while i < NUMBERS {
-        all[i] = number(w, i);
-        i += 1;
+    array::from_fn(|i| number(w, i))
+}
+
+// A number that is held to another, whatever its width.
+trait Unsigned: Copy {
+    ghost value: { Self → ℕ };
+
+    fn wide(self) -> u64
+        ensures { result ≡ value self };
+}
+
+impl Unsigned for u32 {
+    ghost value = { λ x. x };
+
+    fn wide(self) -> u64 {
+        u64::from(self)
     }
-    all
+}
+
+impl Unsigned for u64 {
+    ghost value = { λ x. x };
+
+    fn wide(self) -> u64 {
+        self
+    }
 }
 
 // The first place at which numbers are not right; how many there are if none is wrong.
-fn number_off(found: &[u64], right: &[u64]) -> usize
+fn first_off<T: Unsigned>(found: &[T], right: &[T]) -> usize
     requires { length found.now ≡ length right.now }
-    ensures { result ≡ off found.now right.now (length found.now) 0 }
+    ensures { result ≡ off (map T.value found.now) (map T.value right.now) (length found.now) 0 }
 {
-    let mut at = 0;
-    while at < found.len() {
-        if found[at] != right[at] {
+    for at in 0..found.len() {
+        let a = found[at];
+        let b = right[at];
+        if a.wide() != b.wide() {
             return at;
         }
-        at += 1;
     }
-    at
-}
-
-// The same of words: a twin of the one above, since a slice has one width.
-fn word_off(words: &[u32], right: &[u32]) -> usize
-    requires { length words.now ≡ length right.now }
-    ensures { result ≡ off words.now right.now (length words.now) 0 }
-{
-    let mut at = 0;
-    while at < words.len() {
-        if words[at] != right[at] {
-            return at;
-        }
-        at += 1;
-    }
-    at
+    found.len()
 }
 
 // Says of which blob something is said.
@@ -190,23 +190,14 @@ fn say_all(number: u64) {
     io::write_all(STDOUT_FILENO, b" blobs, all as the oracle answers\n");
 }
 
-// Whether the answer has the right numbers; says of the first that is wrong what it is.
-fn same_numbers(number: u64, found: &[u64; NUMBERS], right: &[u64; NUMBERS]) -> bool {
-    let at = number_off(found, right);
-    if at < NUMBERS {
+// Whether numbers of a blob are right; says of the first that is wrong what it is.
+fn same<T: Unsigned>(number: u64, what: &[u8], found: &[T], right: &[T]) -> bool
+    requires { length found.now ≡ length right.now }
+{
+    let at = first_off(found, right);
+    if at < found.len() {
         say_blob(number);
-        say(b": number ", at, found[at], right[at]);
-        return false;
-    }
-    true
-}
-
-// The same of the lent words.
-fn same_words(number: u64, found: &[u32; WORDS], right: &[u32; WORDS]) -> bool {
-    let at = word_off(found, right);
-    if at < WORDS {
-        say_blob(number);
-        say(b": word ", at, wide(found[at], 0), wide(right[at], 0));
+        say(what, at, found[at].wide(), right[at].wide());
         return false;
     }
     true
@@ -227,10 +218,7 @@ fn replay_blob(number: u64, blob: &[u8]) -> bool {
     let mut words = [KEPT; WORDS];
     let mut answer = [0u64; NUMBERS];
     ducatfeather::ducat_read(blob, &mut words, &[CAPACITY; AREAS], &mut answer);
-    if !same_numbers(number, &answer, &numbers(&told)) {
-        return false;
-    }
-    same_words(number, &words, &right)
+    same(number, b": number ", &answer, &numbers(&told)) && same(number, b": word ", &words, &right)
 }
 
 // The bytes of a blob with the zeros behind it.
@@ -275,8 +263,9 @@ fn step(number: u64) -> bool {
 
 // Nothing says that the data ends, so the blobs are counted up to a number that no run reaches.
 fn main() {
-    let mut number = 0;
-    while number < u64::MAX && step(number) {
-        number += 1;
+    for number in 0..u64::MAX {
+        if !step(number) {
+            break;
+        }
     }
 }

@@ -1,10 +1,7 @@
--- What is put so far, with the bytes that are left laid behind it, is the whole.
-use Rattle.std.proofs.Common.{arith, sym, ◌∙◌, length-set}
-use Rattle.listing.specs.Laws.{laid_next, laid_none}
+-- What is copied over a range is laid from its start on.
+use Rattle.std.proofs.Common.{arith, refl}
+use Rattle.blob.specs.Laid.{laid-copied}
 use Rattle.listing.proofs.put.Goals as goal
 
-pub loop-i-preserved : goal.loop-i-preserved
-loop-i-preserved c = (simp length-set (omega arith), omega arith, laid_next _ _ _ _ (omega arith) ∙ c.loop-i.invariant.2)
-
 pub returns : goal.returns
-returns c = record { ends = omega arith; holds = sym (laid_none _ _ _ c.loop-i.i (omega arith)) ∙ c.loop-i.invariant.2 }
+returns c = record { ends = refl; holds = laid-copied _ _ _ _ _ refl (omega arith) c.copy_from_slice.ensures.after }

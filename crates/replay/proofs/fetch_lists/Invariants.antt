@@ -1,10 +1,7 @@
 -- No list has more words than one of the widest entries, so each starts within as many for each list before it.
-use Rattle.std.proofs.Common.{◌*◌, ◌≤◌, ◌-◌, ◌≡◌, length}
-use Rattle.format.specs.Area.{AREAS, WIDEST}
+use Rattle.std.proofs.Common.{◌*◌, ◌≤◌}
+use Rattle.format.specs.Area.{WIDEST}
 use Rattle.replay.proofs.fetch_lists.Given as goal
 
 abbrev pub invariant-loop-row : goal.invariant-loop-row
-invariant-loop-row l = (l.from ≤ 64 * WIDEST * l.row) × (length l.words ≡ length l.initial.words)
-
-abbrev pub decreases-loop-row : goal.decreases-loop-row
-decreases-loop-row l = AREAS - l.row
+invariant-loop-row l = l.from ≤ 64 * WIDEST * l.row
