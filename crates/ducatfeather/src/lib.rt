@@ -13,6 +13,7 @@ ghost use Rattle.index.specs.Call as called;
 use format::list::AREAS;
 use format::{Answer, Guid, GuidsFound, Key, LONGEST, TemplateFound};
 use index::IndexAnswer;
+use lists::Lists;
 
 // The numbers of an answer: code, field, place, first, second, and the counts.
 const NUMBERS: usize = 5 + AREAS;
@@ -25,6 +26,18 @@ fn for_lists(numbers: &[u32]) -> [u32; AREAS]
     let mut all = [0; AREAS];
     words::put(&mut all, 0, numbers);
     all
+}
+
+// The lent lists of a reading.
+fn lent<'a>(words: &'a [u32], capacities: &[u32], counts: &[u32]) -> Lists<'a>
+    requires { (length capacities.now ≡ AREAS) × (length counts.now ≡ AREAS) }
+    ensures { (result.words.now ≡ words.now) × (result.capacities ≡ capacities.now) × (result.counts ≡ counts.now) }
+{
+    Lists {
+        words,
+        capacities: for_lists(capacities),
+        counts: for_lists(counts),
+    }
 }
 
 // The answer where there is another number of capacities, or of numbers for the answer.
@@ -146,9 +159,7 @@ fn template_at(
         return TemplateFound::Refused(bounds::own(8));
     }
     lookup::template_at(
-        words,
-        for_lists(capacities),
-        for_lists(counts),
+        &lent(words, capacities, counts),
         provider,
         first,
         count,
@@ -250,13 +261,7 @@ fn templates_for(
     if n != 5 {
         return GuidsFound::Refused(bounds::own(8));
     }
-    lookup::templates_for(
-        words,
-        for_lists(capacities),
-        for_lists(counts),
-        key_of(key),
-        guids,
-    )
+    lookup::templates_for(&lent(words, capacities, counts), key_of(key), guids)
 }
 
 // Its five numbers.
@@ -325,7 +330,7 @@ fn index_write(
     if n != 5 {
         return IndexAnswer::Refused(bounds::own(8));
     }
-    indexer::write(words, for_lists(capacities), for_lists(counts), bytes)
+    indexer::write(&lent(words, capacities, counts), bytes)
 }
 
 // Its five numbers.

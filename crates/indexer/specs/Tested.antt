@@ -1,9 +1,8 @@
 -- The writing of an index, by what was tested.
-use Rattle.std.specs.Prelude.{ℕ, ◌≡◌, Bool, true, false, ◌&&◌, List, map, take}
+use Rattle.std.specs.Prelude.{Err, ℕ, ◌≡◌, Bool, true, false, ◌&&◌, List, map, take}
 use Rattle.std.proofs.Common.{ap, sym, ◌∙◌, arith}
 use Rattle.blob.specs.Reading.{Outcome, refused}
 use Rattle.blob.specs.declared.Refusal.{Refusal}
-use Rattle.blob.specs.declared.Verdict.TheVariants as verdicts
 use Rattle.format.specs.Area.{PROVIDERS, TABLES, EVENTS, TEMPLATES, rows, place, width, of}
 use Rattle.format.specs.Answer.{own, areas, lent_enough}
 use Rattle.format.specs.Lookup.{entries_of, counts_fit, tables_fit, tables_own}
@@ -18,7 +17,7 @@ use Rattle.indexer.specs.Listed.{unknown2s, all_fit, resolved, index_by}
 use Rattle.indexer.specs.Resolved.{found-listed}
 
 module _ (words capacities counts lent : List ℕ) where
-  pub write_refused : (r : Refusal) → fit_together words capacities counts ≡ verdicts.Refused r → writing words capacities counts lent ≡ refused r
+  pub write_refused : (r : Refusal) → fit_together words capacities counts ≡ Err r → writing words capacities counts lent ≡ refused r
   unfolding writing
   write_refused r e =
       refused_as refused (with_room lent (written (index_of words capacities counts))) (lent_enough capacities words) (together words capacities counts) r

@@ -1,6 +1,6 @@
 -- Searching: of words that are compared, and of entries that are searched, those that are left decide.
 use Prim.Native.Nat.{ℕ, zero, suc, ◌+◌, ◌*◌, ◌-◌, ◌≤◌, ◌<◌}
-use Rattle.std.specs.Prelude.{◌≡◌, refl, Bool, true, false, ◌&&◌, List, [], ◌∷◌, get_or, take, drop, eqb}
+use Rattle.std.specs.Prelude.{Option, Some, None, ◌≡◌, refl, Bool, true, false, ◌&&◌, List, [], ◌∷◌, get_or, take, drop, eqb}
 use Rattle.std.proofs.Math.Path.{ap}
 use Rattle.std.proofs.Common.{ap₂, sym, ◌∙◌, mul-add, add-one, length-take, length-drop, eq-eqb, ne_eqb}
 use native.Mathlib.Omega.{arith}
@@ -9,8 +9,6 @@ use Rattle.std.proofs.Math.Seq.{drop-cons}
 use Rattle.blob.specs.Reading.{choose}
 use Rattle.format.specs.Lists.{Entry}
 use Rattle.format.specs.Lookup.{entries_from, word_of, alike, every, select, position, positions}
-use Rattle.lists.specs.declared.Found.{Found}
-use Rattle.lists.specs.declared.Found.TheVariants as founds
 use Rattle.lists.specs.declared.Run.{Run}
 use Rattle.lists.specs.Entries.{entries-length, drop_entries, more, some_of}
 use Rattle.lists.specs.Found.{entries, behind, has, found}
@@ -114,29 +112,29 @@ has-two i x y e h =
     rw (drop-cons e i 0 g, drop-cons e (suc i) 0 h) (ap (λ t. eqb (word_of i e) x && t) (and_true (eqb (word_of (suc i) e) y)))
 
 -- what was found tells the list
-abbrev pub told : Found → List ℕ
-told founds.Nothing = []
-told (founds.Number n) = n ∷ []
+abbrev pub told : Option ℕ → List ℕ
+told None = []
+told (Some n) = n ∷ []
 
-pub nothing-found : (n : ℕ) → founds.Nothing ≡ founds.Number n → ⊥
+pub nothing-found : (n : ℕ) → ◌≡◌ {A = Option ℕ} None (Some n) → ⊥
 nothing-found n e = omega (arith, ap (λ f. length (told f)) e)
 
-pub same_found : (m n : ℕ) → founds.Number m ≡ founds.Number n → m ≡ n
+pub same_found : (m n : ℕ) → ◌≡◌ {A = Option ℕ} (Some m) (Some n) → m ≡ n
 same_found m n e = ap (λ f. get_or (told f) 0 0) e
 
-pub none_found : (ns : List ℕ) → found ns ≡ founds.Nothing → ns ≡ []
+pub none_found : (ns : List ℕ) → found ns ≡ None → ns ≡ []
 none_found [] e = refl
 none_found (n ∷ ns) e = absurd (nothing-found n (sym e))
 
 -- a search gives one number at most, of an entry
-pub position-found : (p : Entry → Bool) (k : ℕ) (es : List Entry) (n : ℕ) → found (position p k es) ≡ founds.Number n
+pub position-found : (p : Entry → Bool) (k : ℕ) (es : List Entry) (n : ℕ) → found (position p k es) ≡ Some n
     → (position p k es ≡ n ∷ []) × (k ≤ n) × (n < k + length es)
 unfolding position
 position-found p k [] n e = absurd (nothing-found n e)
 position-found p k (x ∷ es) n e = go (p x) e (position-found p (suc k) es n)
   where
-    go : (t : Bool) → found (choose t (k ∷ []) (position p (suc k) es)) ≡ founds.Number n
-        → (found (position p (suc k) es) ≡ founds.Number n → (position p (suc k) es ≡ n ∷ []) × (suc k ≤ n) × (n < suc k + length es))
+    go : (t : Bool) → found (choose t (k ∷ []) (position p (suc k) es)) ≡ Some n
+        → (found (position p (suc k) es) ≡ Some n → (position p (suc k) es ≡ n ∷ []) × (suc k ≤ n) × (n < suc k + length es))
         → (choose t (k ∷ []) (position p (suc k) es) ≡ n ∷ []) × (k ≤ n) × (n < k + suc (length es))
     go true e ih = let q = same_found k n e in (ap told e, omega arith, omega arith)
     go false e ih = let h = ih e in (h.0, omega arith, omega arith)
@@ -152,52 +150,52 @@ position-single p k (x ∷ es) = go (p x) (position-single p (suc k) es)
     go false ih = ih
 
 -- the first entry that a test picks is the one at the number that it finds; it picks none where it finds none
-pub select-found : (p : Entry → Bool) (k : ℕ) (es : List Entry) (n : ℕ) → found (position p k es) ≡ founds.Number n → take 1 (select p es) ≡ get_or es (n - k) [] ∷ []
+pub select-found : (p : Entry → Bool) (k : ℕ) (es : List Entry) (n : ℕ) → found (position p k es) ≡ Some n → take 1 (select p es) ≡ get_or es (n - k) [] ∷ []
 unfolding select position
 select-found p k [] n e = absurd (nothing-found n e)
 select-found p k (x ∷ es) n e = go (p x) e (select-found p (suc k) es n)
   where
-    go : (t : Bool) → found (choose t (k ∷ []) (position p (suc k) es)) ≡ founds.Number n
-        → (found (position p (suc k) es) ≡ founds.Number n → take 1 (select p es) ≡ get_or es (n - suc k) [] ∷ [])
+    go : (t : Bool) → found (choose t (k ∷ []) (position p (suc k) es)) ≡ Some n
+        → (found (position p (suc k) es) ≡ Some n → take 1 (select p es) ≡ get_or es (n - suc k) [] ∷ [])
         → take 1 (choose t (x ∷ select p es) (select p es)) ≡ get_or (x ∷ es) (n - k) [] ∷ []
     go true e ih = let z : n - k ≡ 0 = omega (arith, same_found k n e) in rw z
     go false e ih = let z : n - k ≡ suc (n - suc k) = omega (arith, position-found p (suc k) es n e) in rw z (ih e)
 
-pub select-none : (p : Entry → Bool) (k : ℕ) (es : List Entry) → found (position p k es) ≡ founds.Nothing → select p es ≡ []
+pub select-none : (p : Entry → Bool) (k : ℕ) (es : List Entry) → found (position p k es) ≡ None → select p es ≡ []
 unfolding select position
 select-none p k [] e = refl
 select-none p k (x ∷ es) e = go (p x) e (select-none p (suc k) es)
   where
-    go : (t : Bool) → found (choose t (k ∷ []) (position p (suc k) es)) ≡ founds.Nothing → (found (position p (suc k) es) ≡ founds.Nothing → select p es ≡ [])
+    go : (t : Bool) → found (choose t (k ∷ []) (position p (suc k) es)) ≡ None → (found (position p (suc k) es) ≡ None → select p es ≡ [])
         → choose t (x ∷ select p es) (select p es) ≡ []
     go true e ih = absurd (nothing-found k (sym e))
     go false e ih = ih e
 
 -- All that a test picks: none where it finds none; else the one that it finds, and those behind that.
-pub positions-none : (p : Entry → Bool) (k : ℕ) (es : List Entry) → found (position p k es) ≡ founds.Nothing → positions p k es ≡ []
+pub positions-none : (p : Entry → Bool) (k : ℕ) (es : List Entry) → found (position p k es) ≡ None → positions p k es ≡ []
 unfolding positions position
 positions-none p k [] e = refl
 positions-none p k (x ∷ es) e = go (p x) e (positions-none p (suc k) es)
   where
-    go : (t : Bool) → found (choose t (k ∷ []) (position p (suc k) es)) ≡ founds.Nothing → (found (position p (suc k) es) ≡ founds.Nothing → positions p (suc k) es ≡ [])
+    go : (t : Bool) → found (choose t (k ∷ []) (position p (suc k) es)) ≡ None → (found (position p (suc k) es) ≡ None → positions p (suc k) es ≡ [])
         → choose t (k ∷ positions p (suc k) es) (positions p (suc k) es) ≡ []
     go true e ih = absurd (nothing-found k (sym e))
     go false e ih = ih e
 
-pub positions-found : (p : Entry → Bool) (k : ℕ) (es : List Entry) (n : ℕ) → found (position p k es) ≡ founds.Number n
+pub positions-found : (p : Entry → Bool) (k : ℕ) (es : List Entry) (n : ℕ) → found (position p k es) ≡ Some n
     → positions p k es ≡ n ∷ positions p (suc n) (drop (suc n - k) es)
 unfolding positions position
 positions-found p k [] n e = absurd (nothing-found n e)
 positions-found p k (x ∷ es) n e = go (p x) e (positions-found p (suc k) es n)
   where
-    go : (t : Bool) → found (choose t (k ∷ []) (position p (suc k) es)) ≡ founds.Number n
-        → (found (position p (suc k) es) ≡ founds.Number n → positions p (suc k) es ≡ n ∷ positions p (suc n) (drop (suc n - suc k) es))
+    go : (t : Bool) → found (choose t (k ∷ []) (position p (suc k) es)) ≡ Some n
+        → (found (position p (suc k) es) ≡ Some n → positions p (suc k) es ≡ n ∷ positions p (suc n) (drop (suc n - suc k) es))
         → choose t (k ∷ positions p (suc k) es) (positions p (suc k) es) ≡ n ∷ positions p (suc n) (drop (suc n - k) (x ∷ es))
     go true e ih = let z : suc n - k ≡ 1 = omega (arith, same_found k n e) in rw (z, ← same_found k n e)
     go false e ih = let z : suc n - k ≡ suc (suc n - suc k) = omega (arith, position-found p (suc k) es n e) in rw z (ih e)
 
 -- of a run's entries
-pub run-positions : (p : Entry → Bool) (words : List ℕ) (width : ℕ) (r : Run) (n : ℕ) → found (position p r.first (entries width r words)) ≡ founds.Number n
+pub run-positions : (p : Entry → Bool) (words : List ℕ) (width : ℕ) (r : Run) (n : ℕ) → found (position p r.first (entries width r words)) ≡ Some n
     → (positions p r.first (entries width r words)
     ≡ n ∷ positions p (n + 1) (entries width (behind r n) words))
     × (r.first ≤ n) × (n < r.first + r.count)

@@ -1,6 +1,6 @@
 -- The lookup by key, by what was tested and found.
 use Prim.{tt}
-use Rattle.std.specs.Prelude.{ℕ, ◌+◌, ◌/◌, ◌≤◌, ◌<◌, ◌≡◌, Bool, true, false, ◌&&◌, length}
+use Rattle.std.specs.Prelude.{Option, Some, None, Err, ℕ, ◌+◌, ◌/◌, ◌≤◌, ◌<◌, ◌≡◌, Bool, true, false, ◌&&◌, length}
 use Rattle.std.proofs.Math.Path.{refl, ap, ap₂, sym}
 use Rattle.std.proofs.Common.{◌∙◌, arith}
 use mathlib.Core.List.{List, [], ◌∷◌, ◌++◌, map, map-append}
@@ -10,7 +10,6 @@ use Rattle.blob.proofs.Asks.{inside_append}
 use Rattle.blob.specs.Laid.{laid, flat}
 use Rattle.blob.specs.Places.{Each}
 use Rattle.blob.specs.declared.Refusal.{Refusal}
-use Rattle.blob.specs.declared.Verdict.TheVariants as verdicts
 use Rattle.format.specs.Area.{PROVIDERS, TABLES, EVENTS, TEMPLATES, place, width}
 use Rattle.format.specs.Entry.{GUID, EVENT_TEMPLATE}
 use Rattle.format.specs.Table.{EVNT, TTBL}
@@ -19,8 +18,6 @@ use Rattle.format.specs.Answer.{own, lent_enough}
 use Rattle.format.specs.Lookup.{entries_of, word_of, select, position, positions, counts_fit, tables_fit, tables_own, once, keyed, key_words, guid_at_offset, guids_of_provider, guids_of, by_key, guids_found, guids_held}
 use Rattle.format.specs.declared.GuidsFound.TheVariants as guids
 use Rattle.format.specs.declared.Key.{Key}
-use Rattle.lists.specs.declared.Found.{Found}
-use Rattle.lists.specs.declared.Found.TheVariants as founds
 use Rattle.lists.specs.declared.Run.{Run}
 use Rattle.lists.specs.Fit.{refused_as, inside, whole-entries}
 use Rattle.lists.specs.Found.{entries, few, run_of, has, found, tables_hold, fit_together, Fit, owned}
@@ -35,13 +32,13 @@ and_false : (b : Bool) → (b && false) ≡ false
 and_false true = refl
 and_false false = refl
 
--- the verdicts before anything is looked for
+-- the refusals before anything is looked for
 module _ (words capacities counts : List ℕ) (key : Key) (lent : List ℕ) where
   pub key-wide : 65536 < length lent / GUID → by_key words capacities counts key lent ≡ refused (own 8)
   unfolding by_key
   key-wide h = rw (lt-leb _ _ h, and_false)
 
-  pub key-refused : length lent / GUID ≤ 65536 → (r : Refusal) → fit_together words capacities counts ≡ verdicts.Refused r → by_key words capacities counts key lent ≡ refused r
+  pub key-refused : length lent / GUID ≤ 65536 → (r : Refusal) → fit_together words capacities counts ≡ Err r → by_key words capacities counts key lent ≡ refused r
   unfolding by_key
   key-refused h r e =
       rw (le-leb _ _ h, and_true (lent_enough capacities words))
@@ -65,9 +62,9 @@ module _ (words capacities counts guid key : List ℕ) (providers : Run) (marks 
   unfolding flat firsts
   come_to = rw (position-single (has 0 guid) providers.first (entries (width PROVIDERS) providers words)) (go (found searched) refl)
     where
-      go : (f : Found) → found searched ≡ f → left ≡ new_at words capacities counts guid key marks (came words capacities counts providers (told f))
-      go founds.Nothing e = rw (positions-none (has 0 guid) providers.first (entries (width PROVIDERS) providers words) e)
-      go (founds.Number p) e =
+      go : (f : Option ℕ) → found searched ≡ f → left ≡ new_at words capacities counts guid key marks (came words capacities counts providers (told f))
+      go None e = rw (positions-none (has 0 guid) providers.first (entries (width PROVIDERS) providers words) e)
+      go (Some p) e =
           ap (λ (ps : List ℕ). firsts words (run_of capacities counts (place TEMPLATES)) marks (flat (λ n. numbers_from words capacities counts guid key n) ps))
           (run-positions (has 0 guid) words (width PROVIDERS) providers p e).0
 
@@ -89,7 +86,7 @@ module _ (words capacities counts : List ℕ) (f : Fit words capacities counts) 
 
   -- where the lookup stands, at a provider that was found
   pub came-to : (guid : List ℕ) (providers : Run) → few (width PROVIDERS) providers words → (p : ℕ)
-      → found (position (has 0 guid) providers.first (entries (width PROVIDERS) providers words)) ≡ founds.Number p
+      → found (position (has 0 guid) providers.first (entries (width PROVIDERS) providers words)) ≡ Some p
       → (p < providers.first + providers.count) × arrived words list providers (cames.To (came_to words capacities counts providers p))
   came-to guid providers s p e =
       let r = run-positions (has 0 guid) words (width PROVIDERS) providers p e in

@@ -1,11 +1,10 @@
 -- The lookup by offset, by what was tested.
-use Rattle.std.specs.Prelude.{ℕ, ◌+◌, ◌≤◌, ◌<◌, ◌≡◌, refl, ◌&&◌, List, [], ◌∷◌, take}
+use Rattle.std.specs.Prelude.{Err, ℕ, ◌+◌, ◌≤◌, ◌<◌, ◌≡◌, refl, ◌&&◌, List, [], ◌∷◌, take}
 use Rattle.std.proofs.Common.{ap, ◌∙◌, arith}
 use Rattle.std.proofs.Math.Path.{sym}
 use Rattle.std.proofs.Math.Dec.{leb}
 use borrow.Author.Tests.{le-leb, lt-leb}
 use Rattle.blob.specs.declared.Refusal.{Refusal}
-use Rattle.blob.specs.declared.Verdict.TheVariants as verdicts
 use Rattle.format.specs.Area.{TEMPLATES, rows, place, width, of}
 use Rattle.format.specs.Entry.{TEMPLATE_PROVIDER}
 use Rattle.format.specs.Answer.{areas, own, lent_enough}
@@ -23,7 +22,7 @@ shown-found [] = refl
 shown-found (n ∷ ns) = refl
 
 module _ (words capacities counts : List ℕ) (provider first count offset : ℕ) where
-  pub offset-refused : (r : Refusal) → fit words capacities counts ≡ verdicts.Refused r → by_offset words capacities counts provider first count offset ≡ template.Refused r
+  pub offset-refused : (r : Refusal) → fit words capacities counts ≡ Err r → by_offset words capacities counts provider first count offset ≡ template.Refused r
   unfolding by_offset
   offset-refused r e =
       refused_as template.Refused _ (lent_enough capacities words) (counts_fit counts capacities && leb (first + count) (of TEMPLATES counts)) r

@@ -2,7 +2,7 @@
 -- them, and what was given is marked by these.
 use Prim.{Unit}
 use Prim.Native.Nat.{ℕ, zero, suc, ◌+◌, ◌*◌, ◌-◌, ◌/◌, ◌≤◌, ◌<◌, min}
-use Rattle.std.specs.Prelude.{◌≡◌, Bool, not, ◌&&◌, length, get_or, take, drop, set, replicate, eqb, leb}
+use Rattle.std.specs.Prelude.{Option, Some, None, ◌≡◌, Bool, not, ◌&&◌, length, get_or, take, drop, set, replicate, eqb, leb}
 use Rattle.std.proofs.Math.Path.{refl, ap, ap₂}
 use Rattle.std.proofs.Common.{sym, ◌∙◌, subst, length-take, length-drop, take-take, eq-eqb, ne_eqb, le-leb}
 use Rattle.std.proofs.Math.Bool.{true, false}
@@ -19,8 +19,6 @@ use Rattle.format.specs.Lists.{Entry}
 use Rattle.format.specs.Lookup.{entries_from, word_of, alike, position, positions}
 use Rattle.format.specs.declared.TemplateFound.{TemplateFound}
 use Rattle.format.specs.declared.TemplateFound.TheVariants as template
-use Rattle.lists.specs.declared.Found.{Found}
-use Rattle.lists.specs.declared.Found.TheVariants as founds
 use Rattle.lists.specs.declared.Run.{Run}
 use Rattle.lists.specs.Entries.{entries-length, word_at}
 use Rattle.lists.specs.Found.{entries, few, has, found, lowest, run_of, owned}
@@ -35,9 +33,9 @@ use Rattle.lookup.specs.declared.Step.{Step}
 use Rattle.lookup.specs.declared.Step.TheVariants as steps
 
 -- as the answer of the lookup by offset
-abbrev pub shown : Found → TemplateFound
-shown founds.Nothing = template.Nothing
-shown (founds.Number n) = template.Number n
+abbrev pub shown : Option ℕ → TemplateFound
+shown None = template.Nothing
+shown (Some n) = template.Number n
 
 -- list 9, whole, in the words; and a run of it
 abbrev pub Listed : Run → List ℕ → Type 0
@@ -64,9 +62,9 @@ abbrev pub numbers : List ℕ → Run → List ℕ → Run → List ℕ
 numbers words templates key events = flat (number_of words templates key) (entries (width EVENTS) events words)
 
 -- a template that was found, where it is not marked
-abbrev pub unmarked : List Bool → Found → Found
-unmarked marks founds.Nothing = founds.Nothing
-unmarked marks (founds.Number n) = choose (get_or marks n false) founds.Nothing (founds.Number n)
+abbrev pub unmarked : List Bool → Option ℕ → Option ℕ
+unmarked marks None = None
+unmarked marks (Some n) = choose (get_or marks n false) None (Some n)
 
 -- a mark, with some words at a place that are a GUID that is given; marks of some templates, so; and of all in list 9
 abbrev pub mark_of : List ℕ → List ℕ → ℕ → ℕ → List Bool → Bool
@@ -189,10 +187,10 @@ module _ (words : List ℕ) (templates : Run) (key : List ℕ) (e : Entry) where
       go true = position-single _ templates.first (entries (width TEMPLATES) templates words)
       go false = refl
 
-  pub number-below : (n : ℕ) → found (number_of words templates key e) ≡ founds.Number n → n < templates.first + templates.count
+  pub number-below : (n : ℕ) → found (number_of words templates key e) ≡ Some n → n < templates.first + templates.count
   number-below n h = go (alike (take KEY e) key && not (eqb (word_of EVENT_TEMPLATE e) 0)) h
     where
-      go : (t : Bool) → found (choose t (lowest words templates (word_of EVENT_TEMPLATE e)) []) ≡ founds.Number n → n < templates.first + templates.count
+      go : (t : Bool) → found (choose t (lowest words templates (word_of EVENT_TEMPLATE e)) []) ≡ Some n → n < templates.first + templates.count
       go true h =
           omega (arith, (position-found _ templates.first (entries (width TEMPLATES) templates words) n h).2, entries-length (width TEMPLATES) words templates.count (templates.start + width TEMPLATES * templates.first))
       go false h = absurd (nothing-found n h)
@@ -212,25 +210,25 @@ module _ (words guid : List ℕ) (i left at : ℕ) (marks : List Bool) where
 
 -- Of events that are left, the next one decides: it gives nothing, or what is marked, or a template whose GUID is new.
 module _ (words : List ℕ) (list : Run) (marks : List Bool) where
-  skip : (f : Found) (rest : List ℕ) → unmarked marks f ≡ founds.Nothing → firsts words list marks (single f ++ rest) ≡ firsts words list marks rest
+  skip : (f : Option ℕ) (rest : List ℕ) → unmarked marks f ≡ None → firsts words list marks (single f ++ rest) ≡ firsts words list marks rest
   unfolding firsts
-  skip founds.Nothing rest e = refl
-  skip (founds.Number m) rest e = go (get_or marks m false) e
+  skip None rest e = refl
+  skip (Some m) rest e = go (get_or marks m false) e
     where
-      go : (t : Bool) → choose t founds.Nothing (founds.Number m) ≡ founds.Nothing
+      go : (t : Bool) → choose t None (Some m) ≡ None
           → choose t (firsts words list marks rest) (m ∷ firsts words list (marked words list (guid_of words list m) marks) rest) ≡ firsts words list marks rest
       go true e = refl
       go false e = absurd (nothing-found m (sym e))
 
-  give : (f : Found) (rest : List ℕ) (n : ℕ) → unmarked marks f ≡ founds.Number n
-      → (firsts words list marks (single f ++ rest) ≡ n ∷ firsts words list (marked words list (guid_of words list n) marks) rest) × (f ≡ founds.Number n)
+  give : (f : Option ℕ) (rest : List ℕ) (n : ℕ) → unmarked marks f ≡ Some n
+      → (firsts words list marks (single f ++ rest) ≡ n ∷ firsts words list (marked words list (guid_of words list n) marks) rest) × (f ≡ Some n)
   unfolding firsts
-  give founds.Nothing rest n e = absurd (nothing-found n e)
-  give (founds.Number m) rest n e = go (get_or marks m false) e
+  give None rest n e = absurd (nothing-found n e)
+  give (Some m) rest n e = go (get_or marks m false) e
     where
-      go : (t : Bool) → choose t founds.Nothing (founds.Number m) ≡ founds.Number n
+      go : (t : Bool) → choose t None (Some m) ≡ Some n
           → (choose t (firsts words list marks rest) (m ∷ firsts words list (marked words list (guid_of words list m) marks) rest) ≡ n ∷ firsts words list (marked words list (guid_of words list n) marks) rest)
-          × (founds.Number m ≡ founds.Number n)
+          × (Some m ≡ Some n)
       go true e = absurd (nothing-found n e)
       go false e = (ap (λ k. k ∷ firsts words list (marked words list (guid_of words list k) marks) rest) (same_found m n e), e)
 
@@ -245,7 +243,7 @@ module _ (words : List ℕ) (list templates : Run) (key : List ℕ) (marks : Lis
       ∙ ap₂ (λ (ns : List ℕ) (p : ℕ). ns ++ flat (number_of words templates key) (entries_from (width EVENTS) (left - 1) p words))
       (number-single words templates key (take (width EVENTS) (drop at words))) b
 
-  pub next-skip : (others : List ℕ) → unmarked marks (found (number_at words templates key at)) ≡ founds.Nothing
+  pub next-skip : (others : List ℕ) → unmarked marks (found (number_at words templates key at)) ≡ None
       → firsts words list marks (numbers words templates key (record { start = start; first = first; count = left }) ++ others)
       ≡ firsts words list marks (numbers words templates key (record { start = start; first = first + 1; count = left - 1 }) ++ others)
   next-skip others e =
@@ -253,7 +251,7 @@ module _ (words : List ℕ) (list templates : Run) (key : List ℕ) (marks : Lis
       ∙ ap (firsts words list marks) (append_assoc (single (found (number_at words templates key at))) _ others)
       ∙ skip words list marks (found (number_at words templates key at)) _ e
 
-  pub next-give : (others : List ℕ) (n : ℕ) (marks' : List Bool) → unmarked marks (found (number_at words templates key at)) ≡ founds.Number n → marks' ≡ marked words list (guid_of words list n) marks
+  pub next-give : (others : List ℕ) (n : ℕ) (marks' : List Bool) → unmarked marks (found (number_at words templates key at)) ≡ Some n → marks' ≡ marked words list (guid_of words list n) marks
       → firsts words list marks (numbers words templates key (record { start = start; first = first; count = left }) ++ others)
       ≡ n ∷ firsts words list marks' (numbers words templates key (record { start = start; first = first + 1; count = left - 1 }) ++ others)
   next-give others n marks' e m =
@@ -275,7 +273,7 @@ module _ (words : List ℕ) (list templates : Run) (key : List ℕ) (marks : Lis
       → firsts words l marks (numbers words templates key events ++ others) ≡ n ∷ firsts words l marks' (numbers words templates key rest ++ others)
   tells_template n rest o = tells ∙ ap (told words l templates key marks' others) o
 
-pub next-below : (words : List ℕ) (templates : Run) (key : List ℕ) (marks : List Bool) (at n : ℕ) → unmarked marks (found (number_at words templates key at)) ≡ founds.Number n
+pub next-below : (words : List ℕ) (templates : Run) (key : List ℕ) (marks : List Bool) (at n : ℕ) → unmarked marks (found (number_at words templates key at)) ≡ Some n
     → n < templates.first + templates.count
 next-below words templates key marks at n e =
     number-below words templates key (take (width EVENTS) (drop at words)) n (give words templates marks (found (number_at words templates key at)) [] n e).1

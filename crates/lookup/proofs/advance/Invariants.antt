@@ -12,8 +12,8 @@ at events templates providers = record { events = events; templates = templates;
 
 abbrev pub invariant-loop-n : goal.invariant-loop-n
 invariant-loop-n l =
-    Stands l.words (run_of l.capacities l.counts (place TEMPLATES)) (at l.events l.templates l.providers)
-    × (new_of l.words l.capacities l.counts l.guid l.key l.initial.marks (at l.initial.events l.initial.templates l.initial.providers) ≡ new_of l.words l.capacities l.counts l.guid l.key l.marks (at l.events l.templates l.providers))
+    Stands l.together.lists.words.now (run_of l.together.lists.capacities l.together.lists.counts (place TEMPLATES)) (at l.events l.templates l.providers)
+    × (new_of l.together.lists.words.now l.together.lists.capacities l.together.lists.counts l.guid l.key l.initial.marks (at l.initial.events l.initial.templates l.initial.providers) ≡ new_of l.together.lists.words.now l.together.lists.capacities l.together.lists.counts l.guid l.key l.marks (at l.events l.templates l.providers))
 
 abbrev pub decreases-loop-n : goal.decreases-loop-n
 decreases-loop-n l = l.providers.count

@@ -9,9 +9,9 @@ use Rattle.lookup.proofs.count.Given as goal
 
 abbrev pub invariant-loop-n : goal.invariant-loop-n
 invariant-loop-n l =
-    Stands l.words (run_of l.capacities l.counts (place TEMPLATES)) l.at
+    Stands l.together.lists.words.now (run_of l.together.lists.capacities l.together.lists.counts (place TEMPLATES)) l.at
     × (l.n ≤ l.most + 1)
-    × (length (new_of l.words l.capacities l.counts l.guid l.key unset l.initial.at) ≡ l.n + length (new_of l.words l.capacities l.counts l.guid l.key l.marks l.at))
+    × (length (new_of l.together.lists.words.now l.together.lists.capacities l.together.lists.counts l.guid l.key unset l.initial.at) ≡ l.n + length (new_of l.together.lists.words.now l.together.lists.capacities l.together.lists.counts l.guid l.key l.marks l.at))
 
 abbrev pub decreases-loop-n : goal.decreases-loop-n
 decreases-loop-n l = l.most + 1 - l.n

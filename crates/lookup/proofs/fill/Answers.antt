@@ -18,25 +18,25 @@ shape_of-guids-in_default c = c.loop-left.invariant.1
 
 pub returns-in_default : goal.returns-in_default
 returns-in_default c =
-    sym (c.loop-left.invariant.3 ∙ guids_none (guid_of c.args.words.now (run_of c.args.capacities c.args.counts (place TEMPLATES))) _ _ _ (omega (arith, ap length (c.advance.ensures.walk_after ∙ ap (stepped c.args.words.now c.args.capacities c.args.counts c.args.guid.now c.args.key.now _) c.in_default.is))))
+    sym (c.loop-left.invariant.3 ∙ guids_none (guid_of c.args.together.now.lists.words.now (run_of c.args.together.now.lists.capacities c.args.together.now.lists.counts (place TEMPLATES))) _ _ _ (omega (arith, ap length (c.advance.ensures.walk_after ∙ ap (stepped c.args.together.now.lists.words.now c.args.together.now.lists.capacities c.args.together.now.lists.counts c.args.guid.now c.args.key.now _) c.in_default.is))))
 
 pub guid_of-requires : goal.guid_of-requires
 guid_of-requires c =
-    let h = subst (onward c.args.words.now (run_of c.args.capacities c.args.counts (place TEMPLATES))) c.in-Template.is c.advance.ensures.onward in
-    subst (λ r. Listed r c.args.words.now × (c.in-Template.t < r.count)) (sym c.run_of-list.ensures) (h.1.1.0, h.0)
+    let h = subst (onward c.args.together.now.lists.words.now (run_of c.args.together.now.lists.capacities c.args.together.now.lists.counts (place TEMPLATES))) c.in-Template.is c.advance.ensures.onward in
+    subst (λ r. Listed r c.args.together.now.lists.words.now × (c.in-Template.t < r.count)) (sym c.run_of-list.ensures) (h.1.1.0, h.0)
 
 pub put-requires : goal.put-requires
 put-requires c =
-    let h = subst (onward c.args.words.now (run_of c.args.capacities c.args.counts (place TEMPLATES))) c.in-Template.is c.advance.ensures.onward in
-    let g = guid-length c.args.words.now (run_of c.args.capacities c.args.counts (place TEMPLATES)) _ h.1.1.0 h.0 in
-    omega (arith, c.loop-left.invariant.2, c.loop-left-test.true, ap length (c.guid_of.ensures ∙ ap (λ r. guid_of c.args.words.now r c.in-Template.t) c.run_of-list.ensures) ∙ g)
+    let h = subst (onward c.args.together.now.lists.words.now (run_of c.args.together.now.lists.capacities c.args.together.now.lists.counts (place TEMPLATES))) c.in-Template.is c.advance.ensures.onward in
+    let g = guid-length c.args.together.now.lists.words.now (run_of c.args.together.now.lists.capacities c.args.together.now.lists.counts (place TEMPLATES)) _ h.1.1.0 h.0 in
+    omega (arith, c.loop-left.invariant.2, c.loop-left-test.true, ap length (c.guid_of.ensures ∙ ap (λ r. guid_of c.args.together.now.lists.words.now r c.in-Template.t) c.run_of-list.ensures) ∙ g)
 
 pub shape_of-guids : goal.shape_of-guids
 shape_of-guids c = c.loop-left.invariant.1
 
 pub returns : goal.returns
 returns c =
-    sym (c.loop-left.invariant.3 ∙ guids_none (guid_of c.args.words.now (run_of c.args.capacities c.args.counts (place TEMPLATES))) _ _ _ (omega (arith, c.loop-left.invariant.2.0, c.loop-left-test.false)))
+    sym (c.loop-left.invariant.3 ∙ guids_none (guid_of c.args.together.now.lists.words.now (run_of c.args.together.now.lists.capacities c.args.together.now.lists.counts (place TEMPLATES))) _ _ _ (omega (arith, c.loop-left.invariant.2.0, c.loop-left-test.false)))
 
 pub overflow_add-to : goal.overflow_add-to
 overflow_add-to c =
@@ -44,12 +44,12 @@ overflow_add-to c =
 
 pub loop-left-preserved : goal.loop-left-preserved
 loop-left-preserved c =
-    let h = subst (onward c.args.words.now (run_of c.args.capacities c.args.counts (place TEMPLATES))) c.in-Template.is c.advance.ensures.onward in
-    let e = c.advance.ensures.walk_after ∙ ap (stepped c.args.words.now c.args.capacities c.args.counts c.args.guid.now c.args.key.now _) c.in-Template.is in
-    let g = guid-length c.args.words.now (run_of c.args.capacities c.args.counts (place TEMPLATES)) _ h.1.1.0 h.0 in
-    let u = c.put.ensures ∙ ap (laid c.loop-left.guids c.loop-left.to) (c.guid_of.ensures ∙ ap (λ r. guid_of c.args.words.now r c.in-Template.t) c.run_of-list.ensures) in (
+    let h = subst (onward c.args.together.now.lists.words.now (run_of c.args.together.now.lists.capacities c.args.together.now.lists.counts (place TEMPLATES))) c.in-Template.is c.advance.ensures.onward in
+    let e = c.advance.ensures.walk_after ∙ ap (stepped c.args.together.now.lists.words.now c.args.together.now.lists.capacities c.args.together.now.lists.counts c.args.guid.now c.args.key.now _) c.in-Template.is in
+    let g = guid-length c.args.together.now.lists.words.now (run_of c.args.together.now.lists.capacities c.args.together.now.lists.counts (place TEMPLATES)) _ h.1.1.0 h.0 in
+    let u = c.put.ensures ∙ ap (laid c.loop-left.guids c.loop-left.to) (c.guid_of.ensures ∙ ap (λ r. guid_of c.args.together.now.lists.words.now r c.in-Template.t) c.run_of-list.ensures) in (
       h.1,
       c.put.auto.area ∙ c.loop-left.invariant.1,
       (omega (arith, c.loop-left.invariant.2, ap length e), omega (arith, c.loop-left.invariant.2, c.loop-left-test.true, c.put.auto.area)),
-      c.loop-left.invariant.3 ∙ guids_more (guid_of c.args.words.now (run_of c.args.capacities c.args.counts (place TEMPLATES))) _ _ _ _ _ _ e u g,
+      c.loop-left.invariant.3 ∙ guids_more (guid_of c.args.together.now.lists.words.now (run_of c.args.together.now.lists.capacities c.args.together.now.lists.counts (place TEMPLATES))) _ _ _ _ _ _ e u g,
     )

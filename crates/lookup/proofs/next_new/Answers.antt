@@ -11,16 +11,16 @@ loop-left-init c = ((refl, omega arith), λ others. refl)
 
 pub guid_of-requires : goal.guid_of-requires
 guid_of-requires c =
-    (c.requires.part.0, omega (arith, c.requires.part, next-below c.args.words.now c.args.templates c.args.key.now c.loop-left.marks c.entry_at-at.result _ (sym c.fresh.ensures ∙ c.in-Number.is)))
+    (c.requires.part.0, omega (arith, c.requires.part, next-below c.args.words.now c.args.templates c.args.key.now c.loop-left.marks c.entry_at-at.result _ (sym c.fresh.ensures ∙ c.in-Some.is)))
 
 pub mark-requires : goal.mark-requires
 mark-requires c =
-    (c.requires.part.0, ap length c.guid_of.ensures ∙ guid-length c.args.words.now c.args.list _ c.requires.part.0 (omega (arith, c.requires.part, next-below c.args.words.now c.args.templates c.args.key.now c.loop-left.marks c.entry_at-at.result _ (sym c.fresh.ensures ∙ c.in-Number.is))))
+    (c.requires.part.0, ap length c.guid_of.ensures ∙ guid-length c.args.words.now c.args.list _ c.requires.part.0 (omega (arith, c.requires.part, next-below c.args.words.now c.args.templates c.args.key.now c.loop-left.marks c.entry_at-at.result _ (sym c.fresh.ensures ∙ c.in-Some.is))))
 
-pub returns-in-Number : goal.returns-in-Number
-returns-in-Number c =
+pub returns-in-Some : goal.returns-in-Some
+returns-in-Some c =
     let t = c.loop-left-test.true in
-    let m = c.mark.ensures ∙ ap (λ u. marked c.args.words.now c.args.list u c.loop-left.marks) c.guid_of.ensures in record { tells = λ others. c.loop-left.invariant.1 others ∙ next-give c.args.words.now c.args.list c.args.templates c.args.key.now c.loop-left.marks c.args.events.start _ _ c.entry_at-at.result t c.entry_at-at.ensures others _ _ (sym c.fresh.ensures ∙ c.in-Number.is) m; behind = (omega (arith, c.requires.part, next-below c.args.words.now c.args.templates c.args.key.now c.loop-left.marks c.entry_at-at.result _ (sym c.fresh.ensures ∙ c.in-Number.is)), refl, omega (arith, t, c.loop-left.invariant.0)) }
+    let m = c.mark.ensures ∙ ap (λ u. marked c.args.words.now c.args.list u c.loop-left.marks) c.guid_of.ensures in record { tells = λ others. c.loop-left.invariant.1 others ∙ next-give c.args.words.now c.args.list c.args.templates c.args.key.now c.loop-left.marks c.args.events.start _ _ c.entry_at-at.result t c.entry_at-at.ensures others _ _ (sym c.fresh.ensures ∙ c.in-Some.is) m; behind = (omega (arith, c.requires.part, next-below c.args.words.now c.args.templates c.args.key.now c.loop-left.marks c.entry_at-at.result _ (sym c.fresh.ensures ∙ c.in-Some.is)), refl, omega (arith, t, c.loop-left.invariant.0)) }
 
 pub loop-left-preserved : goal.loop-left-preserved
 loop-left-preserved c =

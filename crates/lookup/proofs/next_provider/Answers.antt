@@ -18,18 +18,18 @@ at events templates providers = record { events = events; templates = templates;
 
 pub returns-in_default : goal.returns-in_default
 returns-in_default c =
-    record { value = ap (came c.args.words.now c.args.capacities c.args.counts c.args.providers) (sym (none_found (position (has 0 c.args.guid.now) c.args.providers.first (entries (width PROVIDERS) c.args.providers c.args.words.now)) (sym c.find.ensures ∙ c.in_default.is))); arrived = tt }
+    record { value = ap (came c.args.together.now.lists.words.now c.args.together.now.lists.capacities c.args.together.now.lists.counts c.args.providers) (sym (none_found (position (has 0 c.args.guid.now) c.args.providers.first (entries (width PROVIDERS) c.args.providers c.args.together.now.lists.words.now)) (sym c.find.ensures ∙ c.in_default.is))); arrived = tt }
 
 pub behind-behind-requires : goal.behind-behind-requires
 behind-behind-requires c =
-    let g = sym c.find.ensures ∙ c.in-Number.is in
-    let h = came-to c.args.words.now c.args.capacities c.args.counts c.requires.fit.0 c.requires.fit.1 c.args.guid.now c.args.providers c.requires.guid_len.1 _ g in
+    let g = sym c.find.ensures ∙ c.in-Some.is in
+    let h = came-to c.args.together.now.lists.words.now c.args.together.now.lists.capacities c.args.together.now.lists.counts c.args.together.now.fits c.args.together.now.tables_fit c.args.guid.now c.args.providers c.requires.guid_len.1 _ g in
     (h.0, c.requires.guid_len.1.1)
 
 pub returns : goal.returns
 returns c =
-    let g = sym c.find.ensures ∙ c.in-Number.is in
-    let h = came-to c.args.words.now c.args.capacities c.args.counts c.requires.fit.0 c.requires.fit.1 c.args.guid.now c.args.providers c.requires.guid_len.1 _ g in
-    let w = ap (λ v. at v c.owned-templates.result c.behind-behind.result) c.owned-events.ensures ∙ ap₂ (at (owned c.args.words.now c.args.capacities c.args.counts c.in-Number.p EVNT)) c.owned-templates.ensures c.behind-behind.ensures in
-    let n = (position-found (has 0 c.args.guid.now) c.args.providers.first (entries (width PROVIDERS) c.args.providers c.args.words.now) _ g).0 in
-    record { value = ap cames.To w ∙ ap (came c.args.words.now c.args.capacities c.args.counts c.args.providers) (sym n); arrived = subst (λ v. arrived c.args.words.now (run_of c.args.capacities c.args.counts (place TEMPLATES)) c.args.providers (cames.To v)) (sym w) h.1 }
+    let g = sym c.find.ensures ∙ c.in-Some.is in
+    let h = came-to c.args.together.now.lists.words.now c.args.together.now.lists.capacities c.args.together.now.lists.counts c.args.together.now.fits c.args.together.now.tables_fit c.args.guid.now c.args.providers c.requires.guid_len.1 _ g in
+    let w = ap (λ v. at v c.owned-templates.result c.behind-behind.result) c.owned-events.ensures ∙ ap₂ (at (owned c.args.together.now.lists.words.now c.args.together.now.lists.capacities c.args.together.now.lists.counts c.in-Some.p EVNT)) c.owned-templates.ensures c.behind-behind.ensures in
+    let n = (position-found (has 0 c.args.guid.now) c.args.providers.first (entries (width PROVIDERS) c.args.providers c.args.together.now.lists.words.now) _ g).0 in
+    record { value = ap cames.To w ∙ ap (came c.args.together.now.lists.words.now c.args.together.now.lists.capacities c.args.together.now.lists.counts c.args.providers) (sym n); arrived = subst (λ v. arrived c.args.together.now.lists.words.now (run_of c.args.together.now.lists.capacities c.args.together.now.lists.counts (place TEMPLATES)) c.args.providers (cames.To v)) (sym w) h.1 }

@@ -3,8 +3,8 @@ use Rattle.lookup.specs.Given.{shown}
 use mathlib.Core.Path.{ap, sym}
 use Rattle.lookup.proofs.shown.Goals as goal
 
-pub returns-in-Number : goal.returns-in-Number
-returns-in-Number c = ap shown (sym c.in-Number.is)
+pub returns-in-Some : goal.returns-in-Some
+returns-in-Some c = ap shown (sym c.in-Some.is)
 
-pub returns-in-Nothing : goal.returns-in-Nothing
-returns-in-Nothing c = ap shown (sym c.in-Nothing.is)
+pub returns-in-None : goal.returns-in-None
+returns-in-None c = ap shown (sym c.in-None.is)

@@ -5,7 +5,7 @@ use lib.ListN.{length}
 use Rattle.format.specs.Area.{TABLES, TEMPLATES, width}
 use Rattle.format.specs.Lookup.{entries_from, every}
 use Rattle.lists.specs.Found.{entries, table_holds}
-use Rattle.lists.proofs.tables_fit.Given as goal
+use Rattle.lists.proofs.Fitted.tables_fit.Given as goal
 
 abbrev pub invariant-loop-left : goal.invariant-loop-left
 invariant-loop-left l =

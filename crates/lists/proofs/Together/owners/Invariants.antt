@@ -7,7 +7,7 @@ use Rattle.format.specs.Area.{TABLES, width}
 use Rattle.format.specs.Lookup.{entries_from, tables_fit}
 use Rattle.format.specs.Owner.{owners_of}
 use Rattle.lists.specs.Owners.{owners_left}
-use Rattle.lists.proofs.owners.Given as goal
+use Rattle.lists.proofs.Together.owners.Given as goal
 
 abbrev pub invariant-loop-left : goal.invariant-loop-left
 invariant-loop-left l =
