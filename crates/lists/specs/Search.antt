@@ -2,60 +2,57 @@
 use Prim.Native.Nat.{ℕ, zero, suc, ◌+◌, ◌*◌, ◌-◌, ◌≤◌, ◌<◌}
 use Rattle.std.specs.Prelude.{Option, Some, None, ◌≡◌, refl, Bool, true, false, ◌&&◌, List, [], ◌∷◌, get_or, take, drop, eqb}
 use Rattle.std.proofs.Math.Path.{ap}
-use Rattle.std.proofs.Common.{ap₂, sym, ◌∙◌, mul-add, add-one, length-take, length-drop, eq-eqb, ne_eqb}
+use Rattle.std.proofs.Common.{ap₂, sym, ◌∙◌, mul-add, add-one, length-take, length-drop}
 use native.Mathlib.Omega.{arith}
-use Rattle.std.proofs.Math.ListN.{length, drop_of_length-le}
+use Rattle.std.proofs.Math.ListN.{length}
 use Rattle.std.proofs.Math.Seq.{drop-cons}
+use Rattle.std.specs.Cmp.Lexicographic.{pointwise}
 use Rattle.blob.specs.Reading.{choose}
 use Rattle.format.specs.Lists.{Entry}
 use Rattle.format.specs.Lookup.{entries_from, word_of, alike, every, select, position, positions}
 use Rattle.lists.specs.declared.Run.{Run}
-use Rattle.lists.specs.Entries.{entries-length, drop_entries, more, some_of}
+use Rattle.lists.specs.Entries.{entries-length, drop_entries, more, some_of, rest, rest_from, rest_more, rest_none}
 use Rattle.lists.specs.Found.{entries, behind, has, found}
 
--- Of two runs of words, those that are left decide: where the next two are equal, where they are not, and where none is left.
-module _ (words key : List ℕ) (at : ℕ) where
-  abbrev pub alike_from : ℕ → Bool
-  alike_from i = alike (take (length key - i) (drop (at + i) words)) (drop i key)
-
-  alike-more : (i : ℕ) → at + length key ≤ length words → i < length key → alike_from i ≡ (eqb (get_or words (at + i) 0) (get_or key i 0) && alike_from (i + 1))
-  unfolding alike
-  alike-more i h g =
-      let n : length key - i ≡ suc (length key - (i + 1)) = omega arith in
-      let a : at + (i + 1) ≡ suc (at + i) = omega arith in
-      let b : i + 1 ≡ suc i = omega arith in
-      let k : at + i < length words = omega arith in
-      rw (n, drop-cons words (at + i) 0 k, drop-cons key i 0 g, a, b)
-
-  pub alike-equal : (i : ℕ) → at + length key ≤ length words → i < length key → get_or words (at + i) 0 ≡ get_or key i 0 → alike_from i ≡ alike_from (i + 1)
-  alike-equal i h g e = alike-more i h g ∙ ap (λ t. t && alike_from (i + 1)) (eq-eqb _ _ e)
-
-  pub alike-other : (i : ℕ) → at + length key ≤ length words → i < length key → (get_or words (at + i) 0 ≡ get_or key i 0 → ⊥) → alike_from i ≡ false
-  alike-other i h g e = alike-more i h g ∙ ap (λ t. t && alike_from (i + 1)) (ne_eqb _ _ e)
-
-  pub alike-none : (i : ℕ) → length key ≤ i → alike_from i ≡ true
-  unfolding alike
-  alike-none i h = let n : length key - i ≡ 0 = omega arith in rw (n, drop_of_length-le key h)
+-- two runs of words are alike where they are equal word by word
+pub alike_pointwise : (xs ys : List ℕ) → pointwise eqb xs ys ≡ alike xs ys
+unfolding alike
+alike_pointwise [] [] = refl
+alike_pointwise [] (y ∷ ys) = refl
+alike_pointwise (x ∷ xs) [] = refl
+alike_pointwise (x ∷ xs) (y ∷ ys) = ap (λ t. eqb x y && t) (alike_pointwise xs ys)
 
 -- Of entries that are searched, the next one has the words or has not, or none is left.
-module _ (words key : List ℕ) (width from : ℕ) (k : from + length key ≤ width) (left at n : ℕ) (h : 0 < left) where
-  position-more : position (has from key) n (entries_from width left at words)
-      ≡ choose (alike (take (length key) (drop (at + from) words)) key) (n ∷ []) (position (has from key) (n + 1) (entries_from width (left - 1) (at + width) words))
-  unfolding position entries_from
-  position-more =
-      let m : left ≡ suc (left - 1) = omega arith in
-      ap (λ (l : ℕ). position (has from key) n (entries_from width l at words)) m ∙ rw (some_of width words (length key) from at k, add-one)
+module _ (words key : List ℕ) (width from : ℕ) (k : from + length key ≤ width) (n at i : ℕ) (h : i < n) where
+  position-more : position (has from key) i (rest width words n at i)
+      ≡ choose (alike (take (length key) (drop ((at + width * i) + from) words)) key) (i ∷ []) (position (has from key) (i + 1) (rest width words n at (i + 1)))
+  unfolding position
+  position-more = rw (rest_more width words n at i h, some_of width words (length key) from (at + width * i) k, add-one)
 
-  pub position_here : true ≡ alike (take (length key) (drop (at + from) words)) key → position (has from key) n (entries_from width left at words) ≡ n ∷ []
+  pub position_here : true ≡ alike (take (length key) (drop ((at + width * i) + from) words)) key → position (has from key) i (rest width words n at i) ≡ i ∷ []
   position_here e = position-more ∙ rw (← e)
 
-  pub position-behind : false ≡ alike (take (length key) (drop (at + from) words)) key
-      → position (has from key) n (entries_from width left at words) ≡ position (has from key) (n + 1) (entries_from width (left - 1) (at + width) words)
+  pub position-behind : false ≡ alike (take (length key) (drop ((at + width * i) + from) words)) key
+      → position (has from key) i (rest width words n at i) ≡ position (has from key) (i + 1) (rest width words n at (i + 1))
   position-behind e = position-more ∙ rw (← e)
 
-pub position-none : (p : Entry → Bool) (words : List ℕ) (width left at n : ℕ) → left ≤ 0 → position p n (entries_from width left at words) ≡ []
-unfolding position entries_from
-position-none p words width left at n h = let c : left ≡ 0 = omega arith in rw c
+pub position-none : (p : Entry → Bool) (words : List ℕ) (width n at i : ℕ) → n ≤ i → position p i (rest width words n at i) ≡ []
+unfolding position
+position-none p words width n at i h = rw (rest_none width words n at i h)
+
+-- Of entries that are tested by their numbers, the next one passes or does not, or none is left.
+module _ (p : Entry → Bool) (words : List ℕ) (width n at i : ℕ) where
+  pub every-next : i < n → p (take width (drop (at + width * i) words)) ≡ true → every p (rest width words n at i) ≡ every p (rest width words n at (i + 1))
+  unfolding every
+  every-next h e = rw (rest_more width words n at i h, e)
+
+  pub every_stop : i < n → p (take width (drop (at + width * i) words)) ≡ false → every p (rest width words n at i) ≡ false
+  unfolding every
+  every_stop h e = rw (rest_more width words n at i h, e)
+
+  pub every_all : n ≤ i → every p (rest width words n at i) ≡ true
+  unfolding every
+  every_all h = rw (rest_none width words n at i h)
 
 -- Of entries that are tested, those that are left decide: where the next one passes, where it does not, and where none is left.
 module _ (p : Entry → Bool) (words : List ℕ) (width left at : ℕ) where
@@ -125,6 +122,10 @@ same_found m n e = ap (λ f. get_or (told f) 0 0) e
 pub none_found : (ns : List ℕ) → found ns ≡ None → ns ≡ []
 none_found [] e = refl
 none_found (n ∷ ns) e = absurd (nothing-found n (sym e))
+
+-- a run's entries, by their numbers
+pub run-rest : (width : ℕ) (r : Run) (words : List ℕ) → rest width words (r.first + r.count) r.start r.first ≡ entries width r words
+run-rest width r words = rest_from width words (r.first + r.count) r.start r.first r.count refl
 
 -- a search gives one number at most, of an entry
 pub position-found : (p : Entry → Bool) (k : ℕ) (es : List Entry) (n : ℕ) → found (position p k es) ≡ Some n

@@ -56,14 +56,7 @@ pub fn same(words: &[u32], at: usize, key: &[u32]) -> bool
     requires { at + length key.now ≤ length words.now }
     ensures { result ≡ right.alike (take (length key.now) (drop at words.now)) key.now }
 {
-    let mut i = 0;
-    while i < key.len() {
-        if words[at + i] != key[i] {
-            return false;
-        }
-        i += 1;
-    }
-    true
+    &words[at..at + key.len()] == key
 }
 
 // Where an entry stands, by its number, in a list that starts at a place.
@@ -81,16 +74,11 @@ pub fn find(words: &[u32], run: Run, row: usize, from: usize, key: &[u32]) -> Op
     ensures { result ≡ spec.found (right.position (spec.has from key.now) run.first (spec.entries (get_or widths row 0) run words.now)) }
 {
     let width = counts::width_of(row);
-    let mut at = entry_at(run.start, row, run.first);
-    let mut left = run.count;
-    let mut number = run.first;
-    while 0 < left {
+    for number in run.first..run.first + run.count {
+        let at = run.start + width * (number as usize);
         if same(words, at + from, key) {
             return Some(number);
         }
-        at += width;
-        left -= 1;
-        number += 1;
     }
     None
 }
@@ -225,14 +213,11 @@ fn all_of(words: &[u32], templates: Run, provider: u32) -> bool
     requires { spec.few (area.width area.TEMPLATES) templates words.now }
     ensures { result ≡ right.all_of provider (spec.entries (area.width area.TEMPLATES) templates words.now) }
 {
-    let mut at = entry_at(templates.start, row::TEMPLATES, templates.first);
-    let mut left = templates.count;
-    while 0 < left {
+    for number in templates.first..templates.first + templates.count {
+        let at = templates.start + width::TEMPLATES * (number as usize);
         if words[at + TEMPLATE_PROVIDER] != provider {
             return false;
         }
-        at += width::TEMPLATES;
-        left -= 1;
     }
     true
 }
@@ -257,23 +242,17 @@ impl<'a> Fitted<'a> {
         ensures { result ≡ spec.tables_hold self.now.lists.counts (right.entries_of self.now.lists.words.now self.now.lists.capacities self.now.lists.counts area.TEMPLATES)
             (right.entries_of self.now.lists.words.now self.now.lists.capacities self.now.lists.counts area.TABLES) }
     {
-        let Lists {
-            words,
-            capacities,
-            counts,
-        } = self.lists;
+        let words = self.lists.words;
         let templates = self.lists.run_of(row::TEMPLATES);
-        let mut at = counts::area_at(capacities, row::TABLES);
-        let mut left = counts[row::TABLES];
-        while 0 < left {
-            if !table_fits(words, at, counts) {
+        let tables = self.lists.run_of(row::TABLES);
+        for i in 0..tables.count as usize {
+            let at = tables.start + width::TABLES * i;
+            if !table_fits(words, at, self.lists.counts) {
                 return false;
             }
             if !table_owns(words, at, templates) {
                 return false;
             }
-            at += width::TABLES;
-            left -= 1;
         }
         true
     }
@@ -306,14 +285,11 @@ fn take_events(owners: &mut [u32; 65536], first: u32, count: u32, provider: u32)
     requires { (length owners.old ≡ 65536) × (first + count ≤ 65536) × (provider < owner.NOBODY) }
     ensures { owner.EventsTaken owners.old first (first + count) provider owners.new result }
 {
-    let mut at = first as usize;
-    let end = at + (count as usize);
-    while at < end {
+    for at in first as usize..(first + count) as usize {
         if owners[at] != NOBODY {
             return false;
         }
         owners[at] = provider;
-        at += 1;
     }
     true
 }
@@ -346,12 +322,10 @@ fn all_owned(owners: &[u32; 65536], n: u32) -> bool
     requires { n ≤ 65536 }
     ensures { owner.AllOwned owners.now n result }
 {
-    let mut i: usize = 0;
-    while i < (n as usize) {
+    for i in 0..n as usize {
         if owners[i] == NOBODY {
             return false;
         }
-        i += 1;
     }
     true
 }
@@ -364,18 +338,14 @@ impl<'a> Together<'a> {
         ensures value { result ≡ events_owned self.now.lists.words.now self.now.lists.capacities self.now.lists.counts }
         ensures owns { owner.Owns (right.entries_of self.now.lists.words.now self.now.lists.capacities self.now.lists.counts area.TABLES) (area.of area.EVENTS self.now.lists.counts) owners.new result }
     {
-        let words = self.lists.words;
-        let counts = self.lists.counts;
+        let tables = self.lists.run_of(row::TABLES);
         let mut seen = [false; 65536];
-        let mut at = counts::area_at(self.lists.capacities, row::TABLES);
-        let mut left = counts[row::TABLES];
-        while 0 < left {
-            if !take_table(words, at, &mut seen, owners) {
+        for i in 0..tables.count as usize {
+            let at = tables.start + width::TABLES * i;
+            if !take_table(self.lists.words, at, &mut seen, owners) {
                 return false;
             }
-            at += width::TABLES;
-            left -= 1;
         }
-        all_owned(owners, counts[row::EVENTS])
+        all_owned(owners, self.lists.counts[row::EVENTS])
     }
 }

@@ -23,8 +23,7 @@ use Rattle.lists.specs.Fit.{refused_as, inside, whole-entries}
 use Rattle.lists.specs.Found.{entries, few, run_of, has, found, tables_hold, fit_together, Fit, owned}
 use Rattle.lists.specs.Search.{and_true, told, position-single, positions-none, run-positions}
 use Rattle.lists.specs.Tables.{owned-entries}
-use Rattle.lookup.specs.declared.Came.{Came}
-use Rattle.lookup.specs.declared.Came.TheVariants as cames
+use Rattle.lookup.specs.declared.Walk.{Walk}
 use Rattle.lookup.specs.Given.{Part, guid_of, firsts, unset, came_to, came, next_provider, arrived, numbers_from, numbers_of_all, new_at, room_for}
 use Rattle.lookup.specs.Once.{keyed-guids, numbers_below, given-once}
 
@@ -87,7 +86,7 @@ module _ (words capacities counts : List ℕ) (f : Fit words capacities counts) 
   -- where the lookup stands, at a provider that was found
   pub came-to : (guid : List ℕ) (providers : Run) → few (width PROVIDERS) providers words → (p : ℕ)
       → found (position (has 0 guid) providers.first (entries (width PROVIDERS) providers words)) ≡ Some p
-      → (p < providers.first + providers.count) × arrived words list providers (cames.To (came_to words capacities counts providers p))
+      → (p < providers.first + providers.count) × arrived words list providers (Some (came_to words capacities counts providers p))
   came-to guid providers s p e =
       let r = run-positions (has 0 guid) words (width PROVIDERS) providers p e in
       (omega (arith, r.2), ((events-in p, templates_in p, (omega (arith, r.1, r.2, s), omega (arith, r.1, r.2, s))), omega (arith, r.1, r.2)))
@@ -126,7 +125,7 @@ module _ (words capacities counts : List ℕ) (f : Fit words capacities counts) 
         ∙ sym (given-once words list (inside words capacities counts f (place TEMPLATES)) (flat from ps) (below_all ps))
 
     -- by the first provider that was come to, or none
-    pub key-given : (c : Came) → next_provider words capacities counts (guid_words key.guid) (run_of capacities counts (place PROVIDERS)) ≡ c
+    pub key-given : (c : Option Walk) → next_provider words capacities counts (guid_words key.guid) (run_of capacities counts (place PROVIDERS)) ≡ c
         → guids_of words capacities counts key ≡ map (guid_of words list) (new_at words capacities counts (guid_words key.guid) (key_words key) unset c)
     key-given c e =
         all-given

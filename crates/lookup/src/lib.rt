@@ -2,7 +2,6 @@
 #![tactic(auto)]
 
 ghost use Rattle.std.specs.Prelude.{◌≡◌, true, ◌+◌, ◌*◌, ◌/◌, ◌≤◌, ◌<◌, min, length};
-ghost use Rattle.blob.specs.Reading.{choose};
 ghost use Rattle.blob.specs.Laid.{laid, flat};
 ghost use Rattle.format.specs.Area as area;
 ghost use Rattle.format.specs.Entry as entry;
@@ -16,13 +15,6 @@ use format::list::{MOST, row, width};
 use format::{GuidsFound, Key, TemplateFound, kind, list};
 use lists::{Fitted, Lists, Run, Together};
 
-// The next of a provider's events that gives a GUID that was not given before: the number of its template, and the events behind it.
-#[derive(Clone, Copy)]
-pub enum Next {
-    Template(u32, Run),
-    Over,
-}
-
 // Where the lookup by key stands: the events that are left of a provider, the templates that they are resolved in, and the providers
 // behind it.
 #[derive(Clone, Copy)]
@@ -30,20 +22,6 @@ pub struct Walk {
     pub events: Run,
     pub templates: Run,
     pub providers: Run,
-}
-
-// A provider that the lookup came to, if there is one.
-#[derive(Clone, Copy)]
-pub enum Came {
-    To(Walk),
-    Nowhere,
-}
-
-// The next of all events that does so, and where the lookup stands behind it.
-#[derive(Clone, Copy)]
-pub enum Step {
-    Template(u32, Walk),
-    Over,
 }
 
 // What was found, as the answer.
@@ -102,9 +80,7 @@ fn fresh(
     if offset == 0 {
         return None;
     }
-    let Some(n) = lists::at_offset(words, templates, offset) else {
-        return None;
-    };
+    let n = lists::at_offset(words, templates, offset)?;
     if marks[n as usize] {
         return None;
     }
@@ -121,29 +97,15 @@ fn guid_of<'a>(words: &'a [u32], list: Run, n: u32) -> &'a [u32]
     &words[from..to]
 }
 
-fn either(a: bool, b: bool) -> bool
-    ensures { result ≡ choose a true b }
-{
-    if a {
-        return true;
-    }
-    b
-}
-
 // Marks those of all templates that have a GUID.
 fn mark(words: &[u32], list: Run, guid: &[u32], marks: &mut [bool; 65536])
     requires { spec.Listed list words.now × (length guid.now ≡ entry.GUID) }
     ensures { marks.new ≡ spec.marked words.now list guid.now marks.old }
 {
-    let mut at = list.start;
-    let mut left = list.count;
-    let mut i: usize = 0;
-    while 0 < left {
+    for i in 0..list.count as usize {
+        let at = list.start + width::TEMPLATES * i;
         let given = lists::same(words, at + TEMPLATE_GUID, guid);
-        marks[i] = either(given, marks[i]);
-        at += width::TEMPLATES;
-        left -= 1;
-        i += 1;
+        marks[i] = given || marks[i];
     }
 }
 
@@ -155,50 +117,37 @@ fn next_new(
     list: Run,
     key: &[u32],
     marks: &mut [bool; 65536],
-) -> Next
+) -> Option<(u32, Run)>
     requires few { runs.few (area.width area.EVENTS) events words.now × (length key.now ≡ entry.KEY) }
     requires part { spec.Part list templates words.now }
     ensures tells { spec.Tells words.now list templates key.now marks.old events marks.new result }
     ensures behind { spec.behind events list result }
 {
-    let mut first = events.first;
-    let mut left = events.count;
-    while 0 < left {
-        let at = lists::entry_at(events.start, row::EVENTS, first);
-        first += 1;
-        left -= 1;
+    for number in events.first..events.first + events.count {
+        let at = lists::entry_at(events.start, row::EVENTS, number);
         if let Some(n) = fresh(words, at, templates, key, marks) {
             mark(words, list, guid_of(words, list, n), marks);
-            return Next::Template(
-                n,
-                Run {
-                    start: events.start,
-                    first,
-                    count: left,
-                },
-            );
+            return Some((n, lists::behind(events, number)));
         }
     }
-    Next::Over
+    None
 }
 
 // Where the lookup stands when it comes to the first of some providers that has a GUID: that one's events, its templates, and those of the
 // providers that are behind it.
-fn next_provider(together: &Together, providers: Run, guid: &[u32]) -> Came
+fn next_provider(together: &Together, providers: Run, guid: &[u32]) -> Option<Walk>
     requires guid_len { (length guid.now ≡ entry.GUID) × runs.few (area.width area.PROVIDERS) providers together.now.lists.words.now }
     ensures value { result ≡ spec.next_provider together.now.lists.words.now together.now.lists.capacities together.now.lists.counts guid.now providers }
     ensures arrived { spec.arrived together.now.lists.words.now (runs.run_of together.now.lists.capacities together.now.lists.counts (area.place area.TEMPLATES)) providers result }
 {
-    let Some(p) = lists::find(together.lists.words, providers, row::PROVIDERS, 0, guid) else {
-        return Came::Nowhere;
-    };
+    let p = lists::find(together.lists.words, providers, row::PROVIDERS, 0, guid)?;
     let fitted = Fitted {
         lists: together.lists,
     };
     let events = fitted.owned(p, kind::EVNT);
     let templates = fitted.owned(p, kind::TTBL);
     let behind = lists::behind(providers, p);
-    Came::To(Walk {
+    Some(Walk {
         events,
         templates,
         providers: behind,
@@ -212,7 +161,7 @@ fn advance(
     guid: &[u32],
     key: &[u32],
     marks: &mut [bool; 65536],
-) -> Step
+) -> Option<(u32, Walk)>
     requires guid_len { (length guid.now ≡ entry.GUID) × (length key.now ≡ entry.KEY) }
     requires stands { spec.Stands together.now.lists.words.now (runs.run_of together.now.lists.capacities together.now.lists.counts (area.place area.TEMPLATES)) walk }
     ensures walk_after { spec.new_of together.now.lists.words.now together.now.lists.capacities together.now.lists.counts guid.now key.now marks.old walk
@@ -221,26 +170,12 @@ fn advance(
 {
     let words = together.lists.words;
     let list = together.lists.run_of(row::TEMPLATES);
-    let mut events = walk.events;
-    let mut templates = walk.templates;
-    let mut providers = walk.providers;
+    let mut at = walk;
     loop {
-        if let Next::Template(n, behind) = next_new(words, events, templates, list, key, marks) {
-            return Step::Template(
-                n,
-                Walk {
-                    events: behind,
-                    templates,
-                    providers,
-                },
-            );
+        if let Some((n, events)) = next_new(words, at.events, at.templates, list, key, marks) {
+            return Some((n, Walk { events, ..at }));
         }
-        let Came::To(next) = next_provider(together, providers, guid) else {
-            return Step::Over;
-        };
-        events = next.events;
-        templates = next.templates;
-        providers = next.providers;
+        at = next_provider(together, at.providers, guid)?;
     }
 }
 
@@ -252,15 +187,13 @@ fn count(together: &Together, walk: Walk, guid: &[u32], key: &[u32], most: u32) 
 {
     let mut marks = [false; 65536];
     let mut at = walk;
-    let mut n: u32 = 0;
-    while n <= most {
-        let Step::Template(_, behind) = advance(together, at, guid, key, &mut marks) else {
+    for n in 0..most + 1 {
+        let Some((_, behind)) = advance(together, at, guid, key, &mut marks) else {
             return n;
         };
         at = behind;
-        n += 1;
     }
-    n
+    most + 1
 }
 
 // Stores the GUIDs that they give, each once: so many.
@@ -274,16 +207,12 @@ fn fill(together: &Together, walk: Walk, guid: &[u32], key: &[u32], n: u32, guid
     let list = together.lists.run_of(row::TEMPLATES);
     let mut marks = [false; 65536];
     let mut at = walk;
-    let mut to = 0;
-    let mut left = n;
-    while 0 < left {
-        let Step::Template(t, behind) = advance(together, at, guid, key, &mut marks) else {
+    for i in 0..n as usize {
+        let Some((t, behind)) = advance(together, at, guid, key, &mut marks) else {
             return;
         };
-        words::put(guids, to, guid_of(together.lists.words, list, t));
+        words::put(guids, GUID * i, guid_of(together.lists.words, list, t));
         at = behind;
-        to += GUID;
-        left -= 1;
     }
 }
 
@@ -337,7 +266,7 @@ pub fn templates_for(lists: &Lists, key: Key, guids: &mut [u32]) -> GuidsFound
     let g = key.guid;
     let guid = [g.a, g.b, g.c, g.d];
     let providers = together.lists.run_of(row::PROVIDERS);
-    let Came::To(walk) = next_provider(&together, providers, &guid) else {
+    let Some(walk) = next_provider(&together, providers, &guid) else {
         return GuidsFound::Given(0);
     };
     give(&together, walk, &guid, key, guids)

@@ -27,7 +27,7 @@ next_provider-requires c =
 pub give-requires : goal.give-requires
 give-requires c =
     let l = c.in-Ok.together.lists in
-    record { guid_len = (omega arith, c.if-guids.false); stands = (subst (arrived l.words.now (run_of l.capacities l.counts (place TEMPLATES)) c.run_of-providers.result) c.in-To.is c.next_provider.ensures.arrived).0 }
+    record { guid_len = (omega arith, c.if-guids.false); stands = (subst (arrived l.words.now (run_of l.capacities l.counts (place TEMPLATES)) c.run_of-providers.result) c.in-Some.is c.next_provider.ensures.arrived).0 }
 
 pub returns-in_default : goal.returns-in_default
 returns-in_default c =
@@ -43,5 +43,5 @@ returns c =
     let t = c.in-Ok.together in
     let l = t.lists in
     let o = (fits_together l.words.now l.capacities l.counts (rw (← c.in-Ok.ensures.0) at c.in-Ok.ensures.1)).1 in
-    let x = sym (key-room l.words.now l.capacities l.counts c.args.key c.args.guids.now c.if-guids.false t.fits t.tables_fit o ∙ ap (room_for c.args.guids.now) (key-given l.words.now l.capacities l.counts t.fits t.tables_fit c.args.key _ (ap (next_provider l.words.now l.capacities l.counts (guid_words c.args.key.guid)) (sym c.run_of-providers.ensures) ∙ sym c.next_provider.ensures.value ∙ c.in-To.is))) in
+    let x = sym (key-room l.words.now l.capacities l.counts c.args.key c.args.guids.now c.if-guids.false t.fits t.tables_fit o ∙ ap (room_for c.args.guids.now) (key-given l.words.now l.capacities l.counts t.fits t.tables_fit c.args.key _ (ap (next_provider l.words.now l.capacities l.counts (guid_words c.args.key.guid)) (sym c.run_of-providers.ensures) ∙ sym c.next_provider.ensures.value ∙ c.in-Some.is))) in
     rw (← c.in-Ok.ensures.0) (record { answered = c.give.ensures.value ∙ ap guids_found x; kept = c.give.ensures.guids_after ∙ ap (guids_held c.args.guids.now) x })
