@@ -12,7 +12,8 @@ ghost use Rattle.index.specs.Call as called;
 
 use blob::Refusal;
 use format::list::AREAS;
-use format::{Answer, Guid, GuidsFound, Key, LONGEST, TemplateFound};
+use format::{Answer, Guid, Key, LONGEST};
+use lists::Lists;
 
 // The numbers of an answer: code, field, place, first, second, and the counts.
 const NUMBERS: usize = 5 + AREAS;
@@ -25,6 +26,18 @@ fn for_lists(numbers: &[u32]) -> [u32; AREAS]
     let mut all = [0; AREAS];
     all.copy_from_slice(numbers);
     all
+}
+
+// The lent lists of a reading.
+fn lent<'a>(words: &'a [u32], capacities: &[u32], counts: &[u32]) -> Lists<'a>
+    requires { (length capacities.now ≡ AREAS) × (length counts.now ≡ AREAS) }
+    ensures { (result.words.now ≡ words.now) × (result.capacities ≡ capacities.now) × (result.counts ≡ counts.now) }
+{
+    Lists {
+        words,
+        capacities: for_lists(capacities),
+        counts: for_lists(counts),
+    }
 }
 
 // The answer where there is another number of capacities, or of numbers for the answer.
@@ -126,19 +139,17 @@ fn template_at(
     count: u32,
     offset: u32,
     n: usize,
-) -> TemplateFound
+) -> Result<Option<u32>, Refusal>
     ensures { result ≡ call.called_at words.now capacities.now counts.now provider first count offset n }
 {
     if !each_row(capacities, counts) {
-        return TemplateFound::Refused(bounds::own(8));
+        return Err(bounds::own(8));
     }
     if n != 6 {
-        return TemplateFound::Refused(bounds::own(8));
+        return Err(bounds::own(8));
     }
     lookup::template_at(
-        words,
-        for_lists(capacities),
-        for_lists(counts),
+        &lent(words, capacities, counts),
         provider,
         first,
         count,
@@ -147,14 +158,14 @@ fn template_at(
 }
 
 // Its six numbers.
-fn template_numbers(f: TemplateFound) -> [u64; 6]
+fn template_numbers(f: Result<Option<u32>, Refusal>) -> [u64; 6]
     ensures numbers { result ≡ call.template_numbers f }
     ensures code { get_or result 0 0 < 4294967296 }
 {
     match f {
-        TemplateFound::Number(n) => [0, 0, 0, 0, 1, n as u64],
-        TemplateFound::Nothing => [0, 0, 0, 0, 0, 0],
-        TemplateFound::Refused(r) => [r.code as u64, r.place, r.first, r.second, 0, 0],
+        Ok(Some(n)) => [0, 0, 0, 0, 1, n as u64],
+        Ok(None) => [0, 0, 0, 0, 0, 0],
+        Err(r) => [r.code as u64, r.place, r.first, r.second, 0, 0],
     }
 }
 
@@ -216,36 +227,30 @@ fn templates_for(
     key: &[u32],
     guids: &mut [u32],
     n: usize,
-) -> GuidsFound
+) -> Result<u32, Refusal>
     ensures value { result ≡ right.guids_found (call.called_for words.now capacities.now counts.now key.now guids.old n) }
     ensures guids_after { guids.new ≡ right.guids_held guids.old (call.called_for words.now capacities.now counts.now key.now guids.old n) }
 {
     if !each_row(capacities, counts) {
-        return GuidsFound::Refused(bounds::own(8));
+        return Err(bounds::own(8));
     }
     if key.len() != 12 {
-        return GuidsFound::Refused(bounds::own(8));
+        return Err(bounds::own(8));
     }
     if n != 5 {
-        return GuidsFound::Refused(bounds::own(8));
+        return Err(bounds::own(8));
     }
-    lookup::templates_for(
-        words,
-        for_lists(capacities),
-        for_lists(counts),
-        key_of(key),
-        guids,
-    )
+    lookup::templates_for(&lent(words, capacities, counts), key_of(key), guids)
 }
 
-// Its five numbers.
-fn guid_numbers(f: GuidsFound) -> [u64; 5]
-    ensures numbers { result ≡ call.guid_numbers f }
+// The five numbers of an answer that gives so many of something.
+fn given_numbers(given: Result<u64, Refusal>) -> [u64; 5]
+    ensures numbers { result ≡ call.guid_numbers given }
     ensures code { get_or result 0 0 < 4294967296 }
 {
-    match f {
-        GuidsFound::Given(n) => [0, 0, 0, 0, n as u64],
-        GuidsFound::Refused(r) => [r.code as u64, r.place, r.first, r.second, 0],
+    match given {
+        Ok(n) => [0, 0, 0, 0, n],
+        Err(r) => [r.code as u64, r.place, r.first, r.second, 0],
     }
 }
 
@@ -260,8 +265,8 @@ pub fn ducat_templates_for(
 ) -> u32
     ensures { call.AllowedGuids words.now capacities.now counts.now key.now guids.old answer.old result guids.new answer.new }
 {
-    let f = templates_for(words, capacities, counts, key, guids, answer.len());
-    tell(answer, &guid_numbers(f))
+    let given = templates_for(words, capacities, counts, key, guids, answer.len());
+    tell(answer, &given_numbers(given.map(|n| n as u64)))
 }
 
 // The words of an index, with n numbers to store the answer in.
@@ -294,26 +299,15 @@ fn index_write(
     if n != 5 {
         return Err(bounds::own(8));
     }
-    indexer::write(words, for_lists(capacities), for_lists(counts), bytes)
-}
-
-// Its five numbers.
-fn index_numbers(a: Result<usize, Refusal>) -> [u64; 5]
-    ensures numbers { result ≡ called.index_numbers a }
-    ensures code { get_or result 0 0 < 4294967296 }
-{
-    match a {
-        Ok(n) => [0, 0, 0, 0, n as u64],
-        Err(r) => [r.code as u64, r.place, r.first, r.second, 0],
-    }
+    indexer::write(&lent(words, capacities, counts), bytes)
 }
 
 // Reads an index back: its numbers, as words.
 pub fn ducat_index_read(bytes: &[u8], numbers: &mut [u32], answer: &mut [u64]) -> u32
     ensures { called.AllowedCall (called.called_read bytes.now numbers.old (length answer.old)) numbers.old answer.old result numbers.new answer.new }
 {
-    let a = index_read(bytes, numbers, answer.len());
-    tell(answer, &index_numbers(a))
+    let given = index_read(bytes, numbers, answer.len());
+    tell(answer, &given_numbers(given.map(|n| n as u64)))
 }
 
 // Writes the index of the lists of a reading.
@@ -326,6 +320,6 @@ pub fn ducat_index_write(
 ) -> u32
     ensures { called.AllowedCall (called.called_write words.now capacities.now counts.now bytes.old (length answer.old)) bytes.old answer.old result bytes.new answer.new }
 {
-    let a = index_write(words, capacities, counts, bytes, answer.len());
-    tell(answer, &index_numbers(a))
+    let given = index_write(words, capacities, counts, bytes, answer.len());
+    tell(answer, &given_numbers(given.map(|n| n as u64)))
 }

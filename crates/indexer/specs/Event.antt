@@ -1,5 +1,5 @@
 -- The event at a place, word by word: whether its fields fit, its entry's numbers, and whether it finds a template.
-use Rattle.std.specs.Prelude.{ℕ, zero, suc, ◌+◌, ◌*◌, ◌≤◌, ◌<◌, ◌≡◌, Bool, ◌||◌, length, get_or, take, drop, eqb}
+use Rattle.std.specs.Prelude.{Some, None, ℕ, zero, suc, ◌+◌, ◌*◌, ◌≤◌, ◌<◌, ◌≡◌, Bool, ◌||◌, length, get_or, take, drop, eqb}
 use Rattle.std.proofs.Math.Path.{refl, ap}
 use Rattle.std.proofs.Common.{sym, ◌∙◌, add-zero, arith, length-take, length-drop, drop-cons, eq-eqb, ne_eqb}
 use Rattle.std.proofs.Math.Bool.{true, false}
@@ -10,7 +10,6 @@ use Rattle.format.specs.Entry.{EVENT_TEMPLATE, TEMPLATE_OFFSET}
 use Rattle.format.specs.Lists.{Entry}
 use Rattle.format.specs.Join.{some}
 use Rattle.format.specs.Lookup.{word_of, position}
-use Rattle.lists.specs.declared.Found.TheVariants as founds
 use Rattle.lists.specs.Entries.{word_at}
 use Rattle.lists.specs.Found.{found}
 use Rattle.lists.specs.Search.{nothing-found}
@@ -66,20 +65,20 @@ module _ (words : List ℕ) (at : ℕ) (h : at + width EVENTS ≤ length words) 
 
 -- one is found, or none
 module _ (p : Entry → Bool) where
-  pub some-found : (k : ℕ) (es : List Entry) (n : ℕ) → found (position p k es) ≡ founds.Number n → some p es ≡ true
+  pub some-found : (k : ℕ) (es : List Entry) (n : ℕ) → found (position p k es) ≡ Some n → some p es ≡ true
   unfolding some position
   some-found k [] n e = absurd (nothing-found n e)
   some-found k (x ∷ es) n e = go (p x) e (some-found (suc k) es n)
     where
-      go : (t : Bool) → found (choose t (k ∷ []) (position p (suc k) es)) ≡ founds.Number n → (found (position p (suc k) es) ≡ founds.Number n → some p es ≡ true) → (t || some p es) ≡ true
+      go : (t : Bool) → found (choose t (k ∷ []) (position p (suc k) es)) ≡ Some n → (found (position p (suc k) es) ≡ Some n → some p es ≡ true) → (t || some p es) ≡ true
       go true e ih = refl
       go false e ih = ih e
 
-  pub some-none : (k : ℕ) (es : List Entry) → found (position p k es) ≡ founds.Nothing → some p es ≡ false
+  pub some-none : (k : ℕ) (es : List Entry) → found (position p k es) ≡ None → some p es ≡ false
   unfolding some position
   some-none k [] e = refl
   some-none k (x ∷ es) e = go (p x) e (some-none (suc k) es)
     where
-      go : (t : Bool) → found (choose t (k ∷ []) (position p (suc k) es)) ≡ founds.Nothing → (found (position p (suc k) es) ≡ founds.Nothing → some p es ≡ false) → (t || some p es) ≡ false
+      go : (t : Bool) → found (choose t (k ∷ []) (position p (suc k) es)) ≡ None → (found (position p (suc k) es) ≡ None → some p es ≡ false) → (t || some p es) ≡ false
       go true e ih = absurd (nothing-found k (sym e))
       go false e ih = ih e

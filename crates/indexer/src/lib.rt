@@ -7,16 +7,16 @@ ghost use Rattle.blob.specs.Laid.{laid, flat};
 ghost use Rattle.number.specs.Number.{form};
 ghost use Rattle.format.specs.Area as area;
 ghost use Rattle.format.specs.Lookup as lookup;
-ghost use Rattle.lists.specs.Found as lists;
+ghost use Rattle.lists.specs.Found as runs;
 ghost use Rattle.lists.specs.Owners as owners;
 ghost use Rattle.index.specs.Index as right;
 ghost use Rattle.indexer.specs.Listed as spec;
 
-use blob::{Refusal, Verdict};
+use blob::Refusal;
 use format::entry::EVENT_TEMPLATE;
 use format::kind;
-use format::list::{AREAS, row, width};
-use lists::{Found, NOBODY, Run};
+use format::list::{row, width};
+use lists::{Fitted, Lists, NOBODY, Run, Together};
 
 // The widths of an event's fields, each by the largest number that has it.
 const BYTE: u32 = 255;
@@ -176,20 +176,14 @@ fn all_fit(words: &[u32], start: usize, count: u32) -> bool
 }
 
 // A provider with its templates, where one is known.
-fn templates_of(
-    words: &[u32],
-    capacities: [u32; AREAS],
-    counts: [u32; AREAS],
-    known: Known,
-    provider: u32,
-) -> Known
-    requires { lists.Fit words.now capacities counts × spec.Knows words.now capacities counts known }
-    ensures { result ≡ spec.known_of words.now capacities counts provider }
+fn templates_of(fitted: &Fitted, known: Known, provider: u32) -> Known
+    requires { spec.Knows fitted.now.lists.words.now fitted.now.lists.capacities fitted.now.lists.counts known }
+    ensures { result ≡ spec.known_of fitted.now.lists.words.now fitted.now.lists.capacities fitted.now.lists.counts provider }
 {
     if known.provider == provider {
         return known;
     }
-    let templates = lists::owned(words, capacities, counts, provider, kind::TTBL);
+    let templates = fitted.owned(provider, kind::TTBL);
     Known {
         provider,
         templates,
@@ -198,14 +192,14 @@ fn templates_of(
 
 // Whether the event at a place has a template offset, and one of some templates stands there.
 fn finds(words: &[u32], at: usize, templates: Run) -> bool
-    requires { (at + area.width area.EVENTS ≤ length words.now) × lists.few (area.width area.TEMPLATES) templates words.now }
-    ensures { result ≡ spec.finds_in (lists.entries (area.width area.TEMPLATES) templates words.now) (spec.event_at words.now at) }
+    requires { (at + area.width area.EVENTS ≤ length words.now) × runs.few (area.width area.TEMPLATES) templates words.now }
+    ensures { result ≡ spec.finds_in (runs.entries (area.width area.TEMPLATES) templates words.now) (spec.event_at words.now at) }
 {
     let offset = words[at + EVENT_TEMPLATE];
     if offset == 0 {
         return false;
     }
-    let Found::Number(_) = lists::at_offset(words, templates, offset) else {
+    let Some(_) = lists::at_offset(words, templates, offset) else {
         return false;
     };
     true
@@ -223,19 +217,22 @@ fn kept(found: bool, owner: u32) -> u32
 
 // Leaves each event to its owner where it has a found template, else to nobody, so that templates are looked for once. A provider's
 // templates are worked out where its events begin, since these stand together.
-fn resolve(words: &[u32], capacities: [u32; AREAS], counts: [u32; AREAS], owners: &mut [u32; 65536])
-    requires { lists.Fit words.now capacities counts × (lookup.tables_fit counts (lookup.entries_of words.now capacities counts area.TABLES) ≡ true) }
-    ensures { owners.new ≡ spec.resolved words.now capacities counts owners.old }
+fn resolve(together: &Together, owners: &mut [u32; 65536])
+    ensures { owners.new ≡ spec.resolved together.now.lists.words.now together.now.lists.capacities together.now.lists.counts owners.old }
 {
-    let mut at = counts::area_at(capacities, row::EVENTS);
-    let mut left = counts[row::EVENTS];
+    let fitted = Fitted {
+        lists: together.lists,
+    };
+    let words = together.lists.words;
+    let mut at = counts::area_at(together.lists.capacities, row::EVENTS);
+    let mut left = together.lists.counts[row::EVENTS];
     let mut i: usize = 0;
     let mut known = Known {
         provider: 0,
-        templates: lists::owned(words, capacities, counts, 0, kind::TTBL),
+        templates: fitted.owned(0, kind::TTBL),
     };
     while 0 < left {
-        known = templates_of(words, capacities, counts, known, owners[i]);
+        known = templates_of(&fitted, known, owners[i]);
         let found = finds(words, at, known.templates);
         owners[i] = kept(found, owners[i]);
         at += width::EVENTS;
@@ -344,16 +341,15 @@ fn put_entries(
 }
 
 // How many entries the index of lists has, by the owners of their events, and the bytes that all of it takes.
-fn size_index(
-    words: &[u32],
-    capacities: [u32; AREAS],
-    counts: [u32; AREAS],
-    owners: &[u32; 65536],
-) -> Extent
-    requires { lists.Fit words.now capacities counts }
-    ensures { (result.entries ≡ length (spec.listed words.now capacities counts owners.now))
-        × (result.bytes ≡ length (right.written (spec.index_by words.now capacities counts owners.now))) }
+fn size_index(fitted: &Fitted, owners: &[u32; 65536]) -> Extent
+    ensures { (result.entries ≡ length (spec.listed fitted.now.lists.words.now fitted.now.lists.capacities fitted.now.lists.counts owners.now))
+        × (result.bytes ≡ length (right.written (spec.index_by fitted.now.lists.words.now fitted.now.lists.capacities fitted.now.lists.counts owners.now))) }
 {
+    let Lists {
+        words,
+        capacities,
+        counts,
+    } = fitted.lists;
     let providers = counts::area_at(capacities, row::PROVIDERS);
     let events = counts::area_at(capacities, row::EVENTS);
     let found = size_entries(words, events, counts[row::EVENTS], owners);
@@ -370,18 +366,16 @@ fn size_index(
 }
 
 // Stores it.
-fn put_index(
-    words: &[u32],
-    capacities: [u32; AREAS],
-    counts: [u32; AREAS],
-    owners: &[u32; 65536],
-    found: u32,
-    bytes: &mut [u8],
-)
-    requires fit { lists.Fit words.now capacities counts × (found ≡ length (spec.listed words.now capacities counts owners.now)) }
-    requires room { length (right.written (spec.index_by words.now capacities counts owners.now)) ≤ length bytes.old }
-    ensures { bytes.new ≡ laid bytes.old 0 (right.written (spec.index_by words.now capacities counts owners.now)) }
+fn put_index(fitted: &Fitted, owners: &[u32; 65536], found: u32, bytes: &mut [u8])
+    requires found_value { found ≡ length (spec.listed fitted.now.lists.words.now fitted.now.lists.capacities fitted.now.lists.counts owners.now) }
+    requires room { length (right.written (spec.index_by fitted.now.lists.words.now fitted.now.lists.capacities fitted.now.lists.counts owners.now)) ≤ length bytes.old }
+    ensures { bytes.new ≡ laid bytes.old 0 (right.written (spec.index_by fitted.now.lists.words.now fitted.now.lists.capacities fitted.now.lists.counts owners.now)) }
 {
+    let Lists {
+        words,
+        capacities,
+        counts,
+    } = fitted.lists;
     let providers = counts::area_at(capacities, row::PROVIDERS);
     let events = counts::area_at(capacities, row::EVENTS);
     let head = [EDITION, wide(counts[row::PROVIDERS])];
@@ -393,46 +387,35 @@ fn put_index(
 }
 
 // Stores it, and tells how many bytes it has; 9, and nothing is stored, where the lent bytes are too few.
-fn give(
-    words: &[u32],
-    capacities: [u32; AREAS],
-    counts: [u32; AREAS],
-    owners: &[u32; 65536],
-    bytes: &mut [u8],
-) -> Result<usize, Refusal>
-    requires { lists.Fit words.now capacities counts }
-    ensures value { result ≡ right.given (right.with_room bytes.old (right.written (spec.index_by words.now capacities counts owners.now))) }
-    ensures bytes_after { bytes.new ≡ right.held bytes.old (right.with_room bytes.old (right.written (spec.index_by words.now capacities counts owners.now))) }
+fn give(fitted: &Fitted, owners: &[u32; 65536], bytes: &mut [u8]) -> Result<usize, Refusal>
+    ensures value { result ≡ right.given (right.with_room bytes.old (right.written (spec.index_by fitted.now.lists.words.now fitted.now.lists.capacities fitted.now.lists.counts owners.now))) }
+    ensures bytes_after { bytes.new ≡ right.held bytes.old (right.with_room bytes.old (right.written (spec.index_by fitted.now.lists.words.now fitted.now.lists.capacities fitted.now.lists.counts owners.now))) }
 {
-    let whole = size_index(words, capacities, counts, owners);
+    let whole = size_index(fitted, owners);
     if bytes.len() < whole.bytes {
         return Err(index::short(bytes.len()));
     }
-    put_index(words, capacities, counts, owners, whole.entries, bytes);
+    put_index(fitted, owners, whole.entries, bytes);
     Ok(whole.bytes)
 }
 
 // Writes the index of the lists of a reading: 8 and 10 as a lookup by key gives them, 10 for an event of no provider or of two or with a
 // field past its width, then 9.
-pub fn write(
-    words: &[u32],
-    capacities: [u32; AREAS],
-    counts: [u32; AREAS],
-    bytes: &mut [u8],
-) -> Result<usize, Refusal>
-    ensures { right.AllowedWrite words.now capacities counts bytes.old result bytes.new }
+pub fn write(lists: &Lists, bytes: &mut [u8]) -> Result<usize, Refusal>
+    ensures { right.AllowedWrite lists.now.words.now lists.now.capacities lists.now.counts bytes.old result bytes.new }
 {
-    if let Verdict::Refused(r) = lists::fit_together(words, capacities, counts) {
-        return Err(r);
-    }
+    let together = lists.fit_together()?;
     let mut owners = [NOBODY; 65536];
-    if !lists::owners(words, capacities, counts, &mut owners) {
+    if !together.owners(&mut owners) {
         return Err(bounds::own(10));
     }
-    let events = lists::run_of(capacities, counts, row::EVENTS);
-    if !all_fit(words, events.start, events.count) {
+    let events = together.lists.run_of(row::EVENTS);
+    if !all_fit(together.lists.words, events.start, events.count) {
         return Err(bounds::own(10));
     }
-    resolve(words, capacities, counts, &mut owners);
-    give(words, capacities, counts, &owners, bytes)
+    resolve(&together, &mut owners);
+    let fitted = Fitted {
+        lists: together.lists,
+    };
+    give(&fitted, &owners, bytes)
 }

@@ -2,9 +2,9 @@
 use Prim.Native.Nat.{ℕ, zero, suc, ◌+◌, ◌*◌, ◌-◌, ◌≤◌, ◌<◌}
 use Rattle.std.specs.Prelude.{◌≡◌, length, get_or, drop}
 use Rattle.std.proofs.Math.Path.{refl, ap, ap₂}
-use Rattle.std.proofs.Common.{◌∙◌, mul-add, take-take, drop-drop, get_or-take, get_or-drop}
+use Rattle.std.proofs.Common.{◌∙◌, mul-one, mul-add, take-take, drop-drop, get_or-take, get_or-drop}
 use mathlib.Core.List.{List, [], ◌∷◌}
-use Rattle.std.proofs.Math.Nat.{mul-suc}
+use Rattle.std.proofs.Math.Nat.{mul-suc, mul-le-mul_left}
 use Rattle.std.proofs.Math.Numerals.{unary_clauses}
 use native.Mathlib.Omega.{arith}
 use Rattle.std.proofs.Math.ListN.{take}
@@ -33,6 +33,34 @@ module _ (width : ℕ) (words : List ℕ) where
   pub entries_none : (n at : ℕ) → n ≤ 0 → entries_from width n at words ≡ []
   unfolding entries_from
   entries_none n at h = let m : n ≡ 0 = omega arith in rw m
+
+  -- of so many entries, those from one on, by its number: all of them, the next and those behind it, or none
+  unfoldable pub rest : (n at i : ℕ) → List Entry
+  rest n at i = entries_from width (n - i) (at + width * i) words
+
+  pub rest_from : (n at i k : ℕ) → n ≡ i + k → rest n at i ≡ entries_from width k (at + width * i) words
+  unfolding rest
+  rest_from n at i k h = let l : n - i ≡ k = omega arith in rw l
+
+  pub rest_all : (n at : ℕ) → rest n at 0 ≡ entries_from width n at words
+  unfolding rest
+  rest_all n at = let z : n - 0 ≡ n = omega arith in let a : at + width * 0 ≡ at = omega arith in rw (z, a)
+
+  pub rest_more : (n at i : ℕ) → i < n → rest n at i ≡ take width (drop (at + width * i) words) ∷ rest n at (i + 1)
+  unfolding rest
+  rest_more n at i h =
+      let l : n - i - 1 ≡ n - (i + 1) = omega arith in
+      let a : (at + width * i) + width ≡ at + width * (i + 1) = omega (arith, mul-add width i 1, mul-one width) in
+      entries_next (n - i) (at + width * i) (omega arith)
+      ∙ ap₂ (λ (l a : ℕ). take width (drop (at + width * i) words) ∷ entries_from width l a words) l a
+
+  pub rest_none : (n at i : ℕ) → n ≤ i → rest n at i ≡ []
+  unfolding rest
+  rest_none n at i h = entries_none (n - i) (at + width * i) (omega arith)
+
+  -- one of them stands in the words, where all of them do
+  pub one_in : (n at i : ℕ) → i < n → at + width * n ≤ length words → (at + width * i) + width ≤ length words
+  one_in n at i h g = let j : i + 1 ≤ n = omega arith in omega (arith, mul-le-mul_left width j, mul-add width i 1, mul-one width)
 
   -- the first of them, and those behind some
   pub take_entries : (k n at : ℕ) → k ≤ n → take k (entries_from width n at words) ≡ entries_from width k at words

@@ -1,12 +1,11 @@
 -- Counts that fit their capacities, and capacities that fit the lent words: each list's entries stand in the words.
-use Rattle.std.specs.Prelude.{ℕ, zero, suc, ◌+◌, ◌*◌, ◌≤◌, ◌≡◌, refl, Bool, true, false, ◌&&◌, List, [], ◌∷◌, map, length, get_or, take, leb}
-use Rattle.std.proofs.Common.{ap, sym, add-zero, zero-add, mul_comm, mul-le-mul, mul-zero, zero-mul, arith, leb-true}
+use Prim.{Unit, tt}
+use Rattle.std.specs.Prelude.{Result, Ok, Err, is_ok, ℕ, zero, suc, ◌+◌, ◌*◌, ◌≤◌, ◌≡◌, refl, Bool, true, false, ◌&&◌, List, [], ◌∷◌, map, length, get_or, take, leb}
+use Rattle.std.proofs.Common.{ap, add-zero, zero-add, mul_comm, mul-le-mul, mul-zero, zero-mul, arith, leb-true}
 use Rattle.std.proofs.Math.Seq.{take-nil}
 use Rattle.blob.specs.Reading.{choose}
-use Rattle.blob.proofs.Laws.{both, not_fine}
+use Rattle.blob.proofs.Laws.{both}
 use Rattle.blob.specs.declared.Refusal.{Refusal}
-use Rattle.blob.specs.declared.Verdict.{Verdict}
-use Rattle.blob.specs.declared.Verdict.TheVariants as verdicts
 use Rattle.format.specs.Area.{TABLES, TEMPLATES, Row, rows}
 use Rattle.format.specs.Lists.{Entry}
 use Rattle.format.specs.Answer.{own, too_small, moderate, areas, lent_enough}
@@ -14,33 +13,29 @@ use Rattle.format.specs.Lookup.{entries_from, entries_of, counts_fit, tables_fit
 use Rattle.counts.specs.Short.{short, widths}
 use Rattle.lists.specs.Found.{entries, few, run_of, tables_hold, fitting, fit, fit_together, Fit}
 
--- a verdict as a test, and its refusal
-abbrev pub fine : Verdict → Bool
-fine verdicts.Fine = true
-fine (verdicts.Refused r) = false
+-- the refusal of a test
+abbrev refusal : Result Unit Refusal → Refusal
+refusal (Ok u) = own 0
+refusal (Err r) = r
 
-abbrev refusal : Verdict → Refusal
-refusal verdicts.Fine = own 0
-refusal (verdicts.Refused r) = r
-
--- what a verdict tells of the tests, and of an answer by the same tests or by one more
-fine-both : (a b : Bool) → fitting a b ≡ verdicts.Fine → (a ≡ true) × (b ≡ true)
+-- what an answer tells of the tests, and of an answer by the same tests or by one more
+fine-both : (a b : Bool) → fitting a b ≡ Ok tt → (a ≡ true) × (b ≡ true)
 fine-both true true e = (refl, refl)
-fine-both true false e = absurd (not_fine (own 10) e)
-fine-both false b e = absurd (not_fine (own 8) e)
+fine-both true false e = absurd (cc)
+fine-both false b e = absurd (cc)
 
-pub refused_as : {A : Type 0} (f : Refusal → A) (x : A) (a b : Bool) (r : Refusal) → fitting a b ≡ verdicts.Refused r → choose a (choose b x (f (own 10))) (f (own 8)) ≡ f r
-refused_as f x true true r e = absurd (not_fine r (sym e))
+pub refused_as : {A : Type 0} (f : Refusal → A) (x : A) (a b : Bool) (r : Refusal) → fitting a b ≡ Err r → choose a (choose b x (f (own 10))) (f (own 8)) ≡ f r
+refused_as f x true true r e = absurd (cc)
 refused_as f x true false r e = ap (λ v. f (refusal v)) e
 refused_as f x false b r e = ap (λ v. f (refusal v)) e
 
-pub refused-further : (a b d : Bool) (r : Refusal) → fitting a b ≡ verdicts.Refused r → fitting a (b && d) ≡ verdicts.Refused r
-refused-further true true d r e = absurd (not_fine r (sym e))
+pub refused-further : (a b d : Bool) (r : Refusal) → fitting a b ≡ Err r → fitting a (b && d) ≡ Err r
+refused-further true true d r e = absurd (cc)
 refused-further true false d r e = e
 refused-further false b d r e = e
 
 module _ (words capacities counts : List ℕ) where
-  pub fits : fit words capacities counts ≡ verdicts.Fine → Fit words capacities counts
+  pub fits : fit words capacities counts ≡ Ok tt → Fit words capacities counts
   fits e = fine-both (lent_enough capacities words) (counts_fit counts capacities) e
 
   abbrev tables : List Entry
@@ -49,7 +44,7 @@ module _ (words capacities counts : List ℕ) where
   abbrev templates : List Entry
   templates = entries_of words capacities counts TEMPLATES
 
-  pub fits_together : fit_together words capacities counts ≡ verdicts.Fine → (Fit words capacities counts × (tables_fit counts tables ≡ true)) × (tables_own templates tables ≡ true)
+  pub fits_together : fit_together words capacities counts ≡ Ok tt → (Fit words capacities counts × (tables_fit counts tables ≡ true)) × (tables_own templates tables ≡ true)
   fits_together e =
       let h = fine-both (lent_enough capacities words) (counts_fit counts capacities && tables_hold counts templates tables) e in
       let b = both (counts_fit counts capacities) _ h.1 in
@@ -57,7 +52,7 @@ module _ (words capacities counts : List ℕ) where
       (((h.0, b.0), t.0), t.1)
 
 -- no list is too short for its count
-pub room_fits : (rs : List Row) (ns cs : List ℕ) → length ns ≡ length cs → length cs ≡ length rs → fine (short rs cs ns) ≡ counts_fit ns cs
+pub room_fits : (rs : List Row) (ns cs : List ℕ) → length ns ≡ length cs → length cs ≡ length rs → is_ok (short rs cs ns) ≡ counts_fit ns cs
 unfolding short counts_fit
 room_fits [] [] [] h g = refl
 room_fits [] [] (c ∷ cs) h g = absurd (omega arith)
@@ -66,8 +61,8 @@ room_fits (r ∷ rs) ns [] h g = absurd (omega arith)
 room_fits (r ∷ rs) [] (c ∷ cs) h g = absurd (omega arith)
 room_fits (r ∷ rs) (k ∷ ns) (c ∷ cs) h g = go (leb k c) (room_fits rs ns cs (omega arith) (omega arith))
   where
-    go : (t : Bool) → fine (short rs cs ns) ≡ counts_fit ns cs
-        → fine (choose t (short rs cs ns) (verdicts.Refused (too_small r.number c))) ≡ (t && counts_fit ns cs)
+    go : (t : Bool) → is_ok (short rs cs ns) ≡ counts_fit ns cs
+        → is_ok (choose t (short rs cs ns) (Err (too_small r.number c))) ≡ (t && counts_fit ns cs)
     go true ih = ih
     go false ih = refl
 

@@ -1,16 +1,14 @@
 -- What the code speaks of: runs of entries, what is found in them, and whether lists fit together.
-use Rattle.std.specs.Prelude.{ℕ, ◌+◌, ◌*◌, ◌-◌, ◌≤◌, ◌≡◌, Bool, true, ◌&&◌, List, [], ◌∷◌, length, get_or, take, drop, eqb}
+use Prim.{Unit, tt}
+use Rattle.std.specs.Prelude.{Option, Some, None, Result, Ok, Err, ℕ, ◌+◌, ◌*◌, ◌-◌, ◌≤◌, ◌≡◌, Bool, true, ◌&&◌, List, [], ◌∷◌, length, get_or, take, drop, eqb}
 use Rattle.blob.specs.Reading.{choose}
-use Rattle.blob.specs.declared.Verdict.{Verdict}
-use Rattle.blob.specs.declared.Verdict.TheVariants as verdicts
+use Rattle.blob.specs.declared.Refusal.{Refusal}
 use Rattle.format.specs.Area.{TABLES, TEMPLATES, rows, place, width}
 use Rattle.format.specs.Entry.{TABLE_PROVIDER, TABLE_KIND, TABLE_FIRST, TABLE_COUNT, TEMPLATE_OFFSET}
 use Rattle.format.specs.Table.{TTBL, kind_list}
 use Rattle.format.specs.Lists.{Entry}
 use Rattle.format.specs.Answer.{own, areas, lent_enough}
 use Rattle.format.specs.Lookup.{entries_from, entries_of, word_of, alike, select, position, counts_fit, table_fits, tables_fit, table_owns, tables_own}
-use Rattle.lists.specs.declared.Found.{Found}
-use Rattle.lists.specs.declared.Found.TheVariants as founds
 use Rattle.lists.specs.declared.Run.{Run}
 
 -- the entries of a run
@@ -33,9 +31,9 @@ behind r n = record { start = r.start; first = n + 1; count = r.first + r.count 
 abbrev pub has : ℕ → List ℕ → Entry → Bool
 has from key e = alike (take (length key) (drop from e)) key
 
-abbrev pub found : List ℕ → Found
-found [] = founds.Nothing
-found (n ∷ ns) = founds.Number n
+abbrev pub found : List ℕ → Option ℕ
+found [] = None
+found (n ∷ ns) = Some n
 
 -- the number of the lowest of some templates at an offset; none or one
 abbrev pub lowest : List ℕ → Run → ℕ → List ℕ
@@ -53,14 +51,14 @@ abbrev pub range_within : Entry → Run → Type 0
 range_within t templates = word_of TABLE_KIND t ≡ TTBL → word_of TABLE_FIRST t + word_of TABLE_COUNT t ≤ templates.count
 
 -- 8 where not enough is lent; 10 where the lists don't fit together
-abbrev pub fitting : Bool → Bool → Verdict
-fitting lent together = choose lent (choose together verdicts.Fine (verdicts.Refused (own 10))) (verdicts.Refused (own 8))
+abbrev pub fitting : Bool → Bool → Result Unit Refusal
+fitting lent together = choose lent (choose together (Ok tt) (Err (own 10))) (Err (own 8))
 
 module _ (words capacities counts : List ℕ) where
-  abbrev pub fit : Verdict
+  abbrev pub fit : Result Unit Refusal
   fit = fitting (lent_enough capacities words) (counts_fit counts capacities)
 
-  abbrev pub fit_together : Verdict
+  abbrev pub fit_together : Result Unit Refusal
   fit_together = fitting (lent_enough capacities words) (counts_fit counts capacities && tables_hold counts (entries_of words capacities counts TEMPLATES) (entries_of words capacities counts TABLES))
 
   -- as facts

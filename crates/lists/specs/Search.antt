@@ -1,63 +1,58 @@
 -- Searching: of words that are compared, and of entries that are searched, those that are left decide.
 use Prim.Native.Nat.{ℕ, zero, suc, ◌+◌, ◌*◌, ◌-◌, ◌≤◌, ◌<◌}
-use Rattle.std.specs.Prelude.{◌≡◌, refl, Bool, true, false, ◌&&◌, List, [], ◌∷◌, get_or, take, drop, eqb}
+use Rattle.std.specs.Prelude.{Option, Some, None, ◌≡◌, refl, Bool, true, false, ◌&&◌, List, [], ◌∷◌, get_or, take, drop, eqb}
 use Rattle.std.proofs.Math.Path.{ap}
-use Rattle.std.proofs.Common.{ap₂, sym, ◌∙◌, mul-add, add-one, length-take, length-drop, eq-eqb, ne_eqb}
+use Rattle.std.proofs.Common.{ap₂, sym, ◌∙◌, mul-add, add-one, length-take, length-drop}
 use native.Mathlib.Omega.{arith}
-use Rattle.std.proofs.Math.ListN.{length, drop_of_length-le}
+use Rattle.std.proofs.Math.ListN.{length}
 use Rattle.std.proofs.Math.Seq.{drop-cons}
+use Rattle.std.specs.Cmp.Lexicographic.{pointwise}
 use Rattle.blob.specs.Reading.{choose}
 use Rattle.format.specs.Lists.{Entry}
 use Rattle.format.specs.Lookup.{entries_from, word_of, alike, every, select, position, positions}
-use Rattle.lists.specs.declared.Found.{Found}
-use Rattle.lists.specs.declared.Found.TheVariants as founds
 use Rattle.lists.specs.declared.Run.{Run}
-use Rattle.lists.specs.Entries.{entries-length, drop_entries, more, some_of}
+use Rattle.lists.specs.Entries.{entries-length, drop_entries, more, some_of, rest, rest_from, rest_more, rest_none}
 use Rattle.lists.specs.Found.{entries, behind, has, found}
 
--- Of two runs of words, those that are left decide: where the next two are equal, where they are not, and where none is left.
-module _ (words key : List ℕ) (at : ℕ) where
-  abbrev pub alike_from : ℕ → Bool
-  alike_from i = alike (take (length key - i) (drop (at + i) words)) (drop i key)
-
-  alike-more : (i : ℕ) → at + length key ≤ length words → i < length key → alike_from i ≡ (eqb (get_or words (at + i) 0) (get_or key i 0) && alike_from (i + 1))
-  unfolding alike
-  alike-more i h g =
-      let n : length key - i ≡ suc (length key - (i + 1)) = omega arith in
-      let a : at + (i + 1) ≡ suc (at + i) = omega arith in
-      let b : i + 1 ≡ suc i = omega arith in
-      let k : at + i < length words = omega arith in
-      rw (n, drop-cons words (at + i) 0 k, drop-cons key i 0 g, a, b)
-
-  pub alike-equal : (i : ℕ) → at + length key ≤ length words → i < length key → get_or words (at + i) 0 ≡ get_or key i 0 → alike_from i ≡ alike_from (i + 1)
-  alike-equal i h g e = alike-more i h g ∙ ap (λ t. t && alike_from (i + 1)) (eq-eqb _ _ e)
-
-  pub alike-other : (i : ℕ) → at + length key ≤ length words → i < length key → (get_or words (at + i) 0 ≡ get_or key i 0 → ⊥) → alike_from i ≡ false
-  alike-other i h g e = alike-more i h g ∙ ap (λ t. t && alike_from (i + 1)) (ne_eqb _ _ e)
-
-  pub alike-none : (i : ℕ) → length key ≤ i → alike_from i ≡ true
-  unfolding alike
-  alike-none i h = let n : length key - i ≡ 0 = omega arith in rw (n, drop_of_length-le key h)
+-- two runs of words are alike where they are equal word by word
+pub alike_pointwise : (xs ys : List ℕ) → pointwise eqb xs ys ≡ alike xs ys
+unfolding alike
+alike_pointwise [] [] = refl
+alike_pointwise [] (y ∷ ys) = refl
+alike_pointwise (x ∷ xs) [] = refl
+alike_pointwise (x ∷ xs) (y ∷ ys) = ap (λ t. eqb x y && t) (alike_pointwise xs ys)
 
 -- Of entries that are searched, the next one has the words or has not, or none is left.
-module _ (words key : List ℕ) (width from : ℕ) (k : from + length key ≤ width) (left at n : ℕ) (h : 0 < left) where
-  position-more : position (has from key) n (entries_from width left at words)
-      ≡ choose (alike (take (length key) (drop (at + from) words)) key) (n ∷ []) (position (has from key) (n + 1) (entries_from width (left - 1) (at + width) words))
-  unfolding position entries_from
-  position-more =
-      let m : left ≡ suc (left - 1) = omega arith in
-      ap (λ (l : ℕ). position (has from key) n (entries_from width l at words)) m ∙ rw (some_of width words (length key) from at k, add-one)
+module _ (words key : List ℕ) (width from : ℕ) (k : from + length key ≤ width) (n at i : ℕ) (h : i < n) where
+  position-more : position (has from key) i (rest width words n at i)
+      ≡ choose (alike (take (length key) (drop ((at + width * i) + from) words)) key) (i ∷ []) (position (has from key) (i + 1) (rest width words n at (i + 1)))
+  unfolding position
+  position-more = rw (rest_more width words n at i h, some_of width words (length key) from (at + width * i) k, add-one)
 
-  pub position_here : true ≡ alike (take (length key) (drop (at + from) words)) key → position (has from key) n (entries_from width left at words) ≡ n ∷ []
+  pub position_here : true ≡ alike (take (length key) (drop ((at + width * i) + from) words)) key → position (has from key) i (rest width words n at i) ≡ i ∷ []
   position_here e = position-more ∙ rw (← e)
 
-  pub position-behind : false ≡ alike (take (length key) (drop (at + from) words)) key
-      → position (has from key) n (entries_from width left at words) ≡ position (has from key) (n + 1) (entries_from width (left - 1) (at + width) words)
+  pub position-behind : false ≡ alike (take (length key) (drop ((at + width * i) + from) words)) key
+      → position (has from key) i (rest width words n at i) ≡ position (has from key) (i + 1) (rest width words n at (i + 1))
   position-behind e = position-more ∙ rw (← e)
 
-pub position-none : (p : Entry → Bool) (words : List ℕ) (width left at n : ℕ) → left ≤ 0 → position p n (entries_from width left at words) ≡ []
-unfolding position entries_from
-position-none p words width left at n h = let c : left ≡ 0 = omega arith in rw c
+pub position-none : (p : Entry → Bool) (words : List ℕ) (width n at i : ℕ) → n ≤ i → position p i (rest width words n at i) ≡ []
+unfolding position
+position-none p words width n at i h = rw (rest_none width words n at i h)
+
+-- Of entries that are tested by their numbers, the next one passes or does not, or none is left.
+module _ (p : Entry → Bool) (words : List ℕ) (width n at i : ℕ) where
+  pub every-next : i < n → p (take width (drop (at + width * i) words)) ≡ true → every p (rest width words n at i) ≡ every p (rest width words n at (i + 1))
+  unfolding every
+  every-next h e = rw (rest_more width words n at i h, e)
+
+  pub every_stop : i < n → p (take width (drop (at + width * i) words)) ≡ false → every p (rest width words n at i) ≡ false
+  unfolding every
+  every_stop h e = rw (rest_more width words n at i h, e)
+
+  pub every_all : n ≤ i → every p (rest width words n at i) ≡ true
+  unfolding every
+  every_all h = rw (rest_none width words n at i h)
 
 -- Of entries that are tested, those that are left decide: where the next one passes, where it does not, and where none is left.
 module _ (p : Entry → Bool) (words : List ℕ) (width left at : ℕ) where
@@ -114,29 +109,33 @@ has-two i x y e h =
     rw (drop-cons e i 0 g, drop-cons e (suc i) 0 h) (ap (λ t. eqb (word_of i e) x && t) (and_true (eqb (word_of (suc i) e) y)))
 
 -- what was found tells the list
-abbrev pub told : Found → List ℕ
-told founds.Nothing = []
-told (founds.Number n) = n ∷ []
+abbrev pub told : Option ℕ → List ℕ
+told None = []
+told (Some n) = n ∷ []
 
-pub nothing-found : (n : ℕ) → founds.Nothing ≡ founds.Number n → ⊥
+pub nothing-found : (n : ℕ) → ◌≡◌ {A = Option ℕ} None (Some n) → ⊥
 nothing-found n e = omega (arith, ap (λ f. length (told f)) e)
 
-pub same_found : (m n : ℕ) → founds.Number m ≡ founds.Number n → m ≡ n
+pub same_found : (m n : ℕ) → ◌≡◌ {A = Option ℕ} (Some m) (Some n) → m ≡ n
 same_found m n e = ap (λ f. get_or (told f) 0 0) e
 
-pub none_found : (ns : List ℕ) → found ns ≡ founds.Nothing → ns ≡ []
+pub none_found : (ns : List ℕ) → found ns ≡ None → ns ≡ []
 none_found [] e = refl
 none_found (n ∷ ns) e = absurd (nothing-found n (sym e))
 
+-- a run's entries, by their numbers
+pub run-rest : (width : ℕ) (r : Run) (words : List ℕ) → rest width words (r.first + r.count) r.start r.first ≡ entries width r words
+run-rest width r words = rest_from width words (r.first + r.count) r.start r.first r.count refl
+
 -- a search gives one number at most, of an entry
-pub position-found : (p : Entry → Bool) (k : ℕ) (es : List Entry) (n : ℕ) → found (position p k es) ≡ founds.Number n
+pub position-found : (p : Entry → Bool) (k : ℕ) (es : List Entry) (n : ℕ) → found (position p k es) ≡ Some n
     → (position p k es ≡ n ∷ []) × (k ≤ n) × (n < k + length es)
 unfolding position
 position-found p k [] n e = absurd (nothing-found n e)
 position-found p k (x ∷ es) n e = go (p x) e (position-found p (suc k) es n)
   where
-    go : (t : Bool) → found (choose t (k ∷ []) (position p (suc k) es)) ≡ founds.Number n
-        → (found (position p (suc k) es) ≡ founds.Number n → (position p (suc k) es ≡ n ∷ []) × (suc k ≤ n) × (n < suc k + length es))
+    go : (t : Bool) → found (choose t (k ∷ []) (position p (suc k) es)) ≡ Some n
+        → (found (position p (suc k) es) ≡ Some n → (position p (suc k) es ≡ n ∷ []) × (suc k ≤ n) × (n < suc k + length es))
         → (choose t (k ∷ []) (position p (suc k) es) ≡ n ∷ []) × (k ≤ n) × (n < k + suc (length es))
     go true e ih = let q = same_found k n e in (ap told e, omega arith, omega arith)
     go false e ih = let h = ih e in (h.0, omega arith, omega arith)
@@ -152,52 +151,52 @@ position-single p k (x ∷ es) = go (p x) (position-single p (suc k) es)
     go false ih = ih
 
 -- the first entry that a test picks is the one at the number that it finds; it picks none where it finds none
-pub select-found : (p : Entry → Bool) (k : ℕ) (es : List Entry) (n : ℕ) → found (position p k es) ≡ founds.Number n → take 1 (select p es) ≡ get_or es (n - k) [] ∷ []
+pub select-found : (p : Entry → Bool) (k : ℕ) (es : List Entry) (n : ℕ) → found (position p k es) ≡ Some n → take 1 (select p es) ≡ get_or es (n - k) [] ∷ []
 unfolding select position
 select-found p k [] n e = absurd (nothing-found n e)
 select-found p k (x ∷ es) n e = go (p x) e (select-found p (suc k) es n)
   where
-    go : (t : Bool) → found (choose t (k ∷ []) (position p (suc k) es)) ≡ founds.Number n
-        → (found (position p (suc k) es) ≡ founds.Number n → take 1 (select p es) ≡ get_or es (n - suc k) [] ∷ [])
+    go : (t : Bool) → found (choose t (k ∷ []) (position p (suc k) es)) ≡ Some n
+        → (found (position p (suc k) es) ≡ Some n → take 1 (select p es) ≡ get_or es (n - suc k) [] ∷ [])
         → take 1 (choose t (x ∷ select p es) (select p es)) ≡ get_or (x ∷ es) (n - k) [] ∷ []
     go true e ih = let z : n - k ≡ 0 = omega (arith, same_found k n e) in rw z
     go false e ih = let z : n - k ≡ suc (n - suc k) = omega (arith, position-found p (suc k) es n e) in rw z (ih e)
 
-pub select-none : (p : Entry → Bool) (k : ℕ) (es : List Entry) → found (position p k es) ≡ founds.Nothing → select p es ≡ []
+pub select-none : (p : Entry → Bool) (k : ℕ) (es : List Entry) → found (position p k es) ≡ None → select p es ≡ []
 unfolding select position
 select-none p k [] e = refl
 select-none p k (x ∷ es) e = go (p x) e (select-none p (suc k) es)
   where
-    go : (t : Bool) → found (choose t (k ∷ []) (position p (suc k) es)) ≡ founds.Nothing → (found (position p (suc k) es) ≡ founds.Nothing → select p es ≡ [])
+    go : (t : Bool) → found (choose t (k ∷ []) (position p (suc k) es)) ≡ None → (found (position p (suc k) es) ≡ None → select p es ≡ [])
         → choose t (x ∷ select p es) (select p es) ≡ []
     go true e ih = absurd (nothing-found k (sym e))
     go false e ih = ih e
 
 -- All that a test picks: none where it finds none; else the one that it finds, and those behind that.
-pub positions-none : (p : Entry → Bool) (k : ℕ) (es : List Entry) → found (position p k es) ≡ founds.Nothing → positions p k es ≡ []
+pub positions-none : (p : Entry → Bool) (k : ℕ) (es : List Entry) → found (position p k es) ≡ None → positions p k es ≡ []
 unfolding positions position
 positions-none p k [] e = refl
 positions-none p k (x ∷ es) e = go (p x) e (positions-none p (suc k) es)
   where
-    go : (t : Bool) → found (choose t (k ∷ []) (position p (suc k) es)) ≡ founds.Nothing → (found (position p (suc k) es) ≡ founds.Nothing → positions p (suc k) es ≡ [])
+    go : (t : Bool) → found (choose t (k ∷ []) (position p (suc k) es)) ≡ None → (found (position p (suc k) es) ≡ None → positions p (suc k) es ≡ [])
         → choose t (k ∷ positions p (suc k) es) (positions p (suc k) es) ≡ []
     go true e ih = absurd (nothing-found k (sym e))
     go false e ih = ih e
 
-pub positions-found : (p : Entry → Bool) (k : ℕ) (es : List Entry) (n : ℕ) → found (position p k es) ≡ founds.Number n
+pub positions-found : (p : Entry → Bool) (k : ℕ) (es : List Entry) (n : ℕ) → found (position p k es) ≡ Some n
     → positions p k es ≡ n ∷ positions p (suc n) (drop (suc n - k) es)
 unfolding positions position
 positions-found p k [] n e = absurd (nothing-found n e)
 positions-found p k (x ∷ es) n e = go (p x) e (positions-found p (suc k) es n)
   where
-    go : (t : Bool) → found (choose t (k ∷ []) (position p (suc k) es)) ≡ founds.Number n
-        → (found (position p (suc k) es) ≡ founds.Number n → positions p (suc k) es ≡ n ∷ positions p (suc n) (drop (suc n - suc k) es))
+    go : (t : Bool) → found (choose t (k ∷ []) (position p (suc k) es)) ≡ Some n
+        → (found (position p (suc k) es) ≡ Some n → positions p (suc k) es ≡ n ∷ positions p (suc n) (drop (suc n - suc k) es))
         → choose t (k ∷ positions p (suc k) es) (positions p (suc k) es) ≡ n ∷ positions p (suc n) (drop (suc n - k) (x ∷ es))
     go true e ih = let z : suc n - k ≡ 1 = omega (arith, same_found k n e) in rw (z, ← same_found k n e)
     go false e ih = let z : suc n - k ≡ suc (suc n - suc k) = omega (arith, position-found p (suc k) es n e) in rw z (ih e)
 
 -- of a run's entries
-pub run-positions : (p : Entry → Bool) (words : List ℕ) (width : ℕ) (r : Run) (n : ℕ) → found (position p r.first (entries width r words)) ≡ founds.Number n
+pub run-positions : (p : Entry → Bool) (words : List ℕ) (width : ℕ) (r : Run) (n : ℕ) → found (position p r.first (entries width r words)) ≡ Some n
     → (positions p r.first (entries width r words)
     ≡ n ∷ positions p (n + 1) (entries width (behind r n) words))
     × (r.first ≤ n) × (n < r.first + r.count)

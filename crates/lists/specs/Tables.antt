@@ -1,5 +1,5 @@
 -- The tables of a provider, and what they have in the lists.
-use Rattle.std.specs.Prelude.{ℕ, ◌+◌, ◌*◌, ◌-◌, ◌≤◌, ◌<◌, ◌≡◌, Bool, ◌&&◌, get_or, take, drop, leb, ltb}
+use Rattle.std.specs.Prelude.{Some, None, ℕ, ◌+◌, ◌*◌, ◌-◌, ◌≤◌, ◌<◌, ◌≡◌, Bool, ◌&&◌, get_or, take, drop, leb, ltb}
 use Rattle.std.proofs.Math.Path.{refl}
 use Rattle.std.proofs.Common.{ap, sym, ◌∙◌, eqb-true, leb-true}
 use Rattle.std.proofs.Math.Bool.{true, false}
@@ -15,7 +15,6 @@ use Rattle.format.specs.Table.{kind_list}
 use Rattle.format.specs.Answer.{areas}
 use Rattle.format.specs.Lists.{Entry}
 use Rattle.format.specs.Lookup.{entries_from, entries_of, word_of, select, position, every, table_fits, tables_fit, range_of}
-use Rattle.lists.specs.declared.Found.TheVariants as founds
 use Rattle.lists.specs.declared.Run.{Run}
 use Rattle.lists.specs.Entries.{part-entries, entry, entries-length}
 use Rattle.lists.specs.Found.{entries, few, run_of, has, found, Fit, table_of, range_in}
@@ -50,10 +49,10 @@ module _ (words capacities counts : List ℕ) (f : Fit words capacities counts) 
       ∙ position-same _ _ words (width TABLES) (of TABLES counts) (areas rows (take (place TABLES) capacities)) 0 (inside words capacities counts f (place TABLES)).0
       (λ e l. has-two TABLE_PROVIDER provider kind e (omega arith))
 
-  pub table_none : found searched ≡ founds.Nothing → table_of provider kind (entries_of words capacities counts TABLES) ≡ []
+  pub table_none : found searched ≡ None → table_of provider kind (entries_of words capacities counts TABLES) ≡ []
   table_none e = ap (take 1) (select-none p 0 (entries_of words capacities counts TABLES) (ap found (sym table-position) ∙ e))
 
-  pub table-found : (n : ℕ) → found searched ≡ founds.Number n
+  pub table-found : (n : ℕ) → found searched ≡ Some n
       → (table_of provider kind (entries_of words capacities counts TABLES)
       ≡ take (width TABLES) (drop (areas rows (take (place TABLES) capacities) + width TABLES * n) words) ∷ []) × (n < of TABLES counts)
   table-found n e =

@@ -2,7 +2,7 @@
 // is found among entries, and which provider an event belongs to. Nothing here knows the bytes that were read.
 #![tactic(auto)]
 
-ghost use Rattle.std.specs.Prelude.{◌≡◌, true, ◌&&◌, [], ◌∷◌, ◌+◌, ◌*◌, ◌≤◌, ◌<◌, leb, ltb, length, take, drop, get_or};
+ghost use Rattle.std.specs.Prelude.{◌≡◌, true, ◌&&◌, [], ◌∷◌, ◌+◌, ◌*◌, ◌≤◌, ◌<◌, leb, ltb, length, take, drop, get_or, MatchResult, Ok, Err};
 ghost use Rattle.format.specs.Area as area;
 ghost use Rattle.format.specs.Answer as answer;
 ghost use Rattle.format.specs.Table.{kind_list};
@@ -12,18 +12,34 @@ ghost use Rattle.counts.specs.Short.{widths};
 ghost use Rattle.lists.specs.Found as spec;
 ghost use Rattle.lists.specs.Owners as owner;
 
-use blob::Verdict;
+use blob::Refusal;
 use format::entry::{
     TABLE_COUNT, TABLE_FIRST, TABLE_KIND, TABLE_PROVIDER, TEMPLATE_OFFSET, TEMPLATE_PROVIDER,
 };
 use format::kind;
 use format::list::{AREAS, MOST, row, width};
 
-// The number of an entry that was looked for, if there is one.
+// The lists of a reading, as they are lent.
 #[derive(Clone, Copy)]
-pub enum Found {
-    Number(u32),
-    Nothing,
+pub struct Lists<'a> {
+    pub words: &'a [u32],
+    pub capacities: [u32; AREAS],
+    pub counts: [u32; AREAS],
+}
+
+// Lists whose entries stand in the words.
+#[derive(Clone, Copy)]
+pub struct Fitted<'a> {
+    pub lists: Lists<'a>,
+    pub ghost fits: { spec.Fit lists.words.now lists.capacities lists.counts },
+}
+
+// Such lists whose tables name what is there.
+#[derive(Clone, Copy)]
+pub struct Together<'a> {
+    pub lists: Lists<'a>,
+    pub ghost fits: { spec.Fit lists.words.now lists.capacities lists.counts },
+    pub ghost tables_fit: { right.tables_fit lists.counts (right.entries_of lists.words.now lists.capacities lists.counts area.TABLES) ≡ true },
 }
 
 // Entries of a list, one behind the other: where in the lent words the list starts, the number of the first of them in the list, and
@@ -40,14 +56,7 @@ pub fn same(words: &[u32], at: usize, key: &[u32]) -> bool
     requires { at + length key.now ≤ length words.now }
     ensures { result ≡ right.alike (take (length key.now) (drop at words.now)) key.now }
 {
-    let mut i = 0;
-    while i < key.len() {
-        if words[at + i] != key[i] {
-            return false;
-        }
-        i += 1;
-    }
-    true
+    &words[at..at + key.len()] == key
 }
 
 // Where an entry stands, by its number, in a list that starts at a place.
@@ -59,28 +68,23 @@ pub fn entry_at(start: usize, row: usize, number: u32) -> usize
 }
 
 // The lowest of some entries of a row's list that has some words from its word `from` on.
-pub fn find(words: &[u32], run: Run, row: usize, from: usize, key: &[u32]) -> Found
+pub fn find(words: &[u32], run: Run, row: usize, from: usize, key: &[u32]) -> Option<u32>
     requires row_lt_areas { (row < area.AREAS) × (from + length key.now ≤ get_or widths row 0) }
     requires few { spec.few (get_or widths row 0) run words.now }
     ensures { result ≡ spec.found (right.position (spec.has from key.now) run.first (spec.entries (get_or widths row 0) run words.now)) }
 {
     let width = counts::width_of(row);
-    let mut at = entry_at(run.start, row, run.first);
-    let mut left = run.count;
-    let mut number = run.first;
-    while 0 < left {
+    for number in run.first..run.first + run.count {
+        let at = run.start + width * (number as usize);
         if same(words, at + from, key) {
-            return Found::Number(number);
+            return Some(number);
         }
-        at += width;
-        left -= 1;
-        number += 1;
     }
-    Found::Nothing
+    None
 }
 
 // The lowest of some templates at an offset.
-pub fn at_offset(words: &[u32], templates: Run, offset: u32) -> Found
+pub fn at_offset(words: &[u32], templates: Run, offset: u32) -> Option<u32>
     requires { spec.few (area.width area.TEMPLATES) templates words.now }
     ensures { result ≡ spec.found (spec.lowest words.now templates offset) }
 {
@@ -104,37 +108,49 @@ pub fn behind(run: Run, n: u32) -> Run
 pub fn counts_fit(c: [u32; AREAS], capacities: [u32; AREAS]) -> bool
     ensures { result ≡ right.counts_fit c capacities }
 {
-    match counts::room(capacities, c) {
-        Verdict::Fine => true,
-        Verdict::Refused(_) => false,
-    }
+    counts::room(capacities, c).is_ok()
 }
 
-// 8, and 10 for a count over its capacity.
-pub fn fit(words: &[u32], capacities: [u32; AREAS], counts: [u32; AREAS]) -> Verdict
-    ensures { result ≡ spec.fit words.now capacities counts }
-{
-    let lent = counts::lent_enough(capacities, words.len());
-    let counted = counts_fit(counts, capacities);
-    if !lent {
-        return Verdict::Refused(bounds::own(8));
+impl<'a> Lists<'a> {
+    // A whole list, by its row.
+    pub fn run_of(&self, row: usize) -> Run
+        requires { row < area.AREAS }
+        ensures { result ≡ spec.run_of self.now.capacities self.now.counts row }
+    {
+        let start = counts::area_at(self.capacities, row);
+        Run {
+            start,
+            first: 0,
+            count: self.counts[row],
+        }
     }
-    if !counted {
-        return Verdict::Refused(bounds::own(10));
-    }
-    Verdict::Fine
-}
 
-// A whole list, by its row.
-pub fn run_of(capacities: [u32; AREAS], counts: [u32; AREAS], row: usize) -> Run
-    requires { row < area.AREAS }
-    ensures { result ≡ spec.run_of capacities counts row }
-{
-    let start = counts::area_at(capacities, row);
-    Run {
-        start,
-        first: 0,
-        count: counts[row],
+    // 8, and 10 for a count over its capacity.
+    pub fn fit(&self) -> Result<Fitted<'a>, Refusal>
+        ensures { MatchResult result (λ f. (f.lists ≡ self.now) × (spec.fit self.now.words.now self.now.capacities self.now.counts ≡ Ok tt))
+            (λ r. spec.fit self.now.words.now self.now.capacities self.now.counts ≡ Err r) }
+    {
+        if !counts::lent_enough(self.capacities, self.words.len()) {
+            return Err(bounds::own(8));
+        }
+        if !counts_fit(self.counts, self.capacities) {
+            return Err(bounds::own(10));
+        }
+        Ok(Fitted { lists: *self })
+    }
+
+    // 8, and 10 for a count over its capacity, for a table that names what is not there, or for a TTBL with a template of another provider.
+    pub fn fit_together(&self) -> Result<Together<'a>, Refusal>
+        ensures { MatchResult result (λ t. (t.lists ≡ self.now) × (spec.fit_together self.now.words.now self.now.capacities self.now.counts ≡ Ok tt))
+            (λ r. spec.fit_together self.now.words.now self.now.capacities self.now.counts ≡ Err r) }
+    {
+        let fitted = self.fit()?;
+        if !fitted.tables_fit() {
+            return Err(bounds::own(10));
+        }
+        Ok(Together {
+            lists: fitted.lists,
+        })
     }
 }
 
@@ -194,14 +210,11 @@ fn all_of(words: &[u32], templates: Run, provider: u32) -> bool
     requires { spec.few (area.width area.TEMPLATES) templates words.now }
     ensures { result ≡ right.all_of provider (spec.entries (area.width area.TEMPLATES) templates words.now) }
 {
-    let mut at = entry_at(templates.start, row::TEMPLATES, templates.first);
-    let mut left = templates.count;
-    while 0 < left {
+    for number in templates.first..templates.first + templates.count {
+        let at = templates.start + width::TEMPLATES * (number as usize);
         if words[at + TEMPLATE_PROVIDER] != provider {
             return false;
         }
-        at += width::TEMPLATES;
-        left -= 1;
     }
     true
 }
@@ -219,63 +232,46 @@ fn table_owns(words: &[u32], at: usize, templates: Run) -> bool
     all_of(words, range_at(words, at, templates.start), provider)
 }
 
-// Whether each table entry names what is there, and each TTBL's has its own provider's templates. Where ranges do not overlap, as those of
-// a reading's lists, no template is looked at twice.
-fn tables_fit(words: &[u32], capacities: [u32; AREAS], counts: [u32; AREAS]) -> bool
-    requires { spec.Fit words.now capacities counts }
-    ensures { result ≡ spec.tables_hold counts (right.entries_of words.now capacities counts area.TEMPLATES) (right.entries_of words.now capacities counts area.TABLES) }
-{
-    let templates = run_of(capacities, counts, row::TEMPLATES);
-    let mut at = counts::area_at(capacities, row::TABLES);
-    let mut left = counts[row::TABLES];
-    while 0 < left {
-        if !table_fits(words, at, counts) {
-            return false;
+impl<'a> Fitted<'a> {
+    // Whether each table entry names what is there, and each TTBL's has its own provider's templates. Where ranges do not overlap, as those
+    // of a reading's lists, no template is looked at twice.
+    fn tables_fit(&self) -> bool
+        ensures { result ≡ spec.tables_hold self.now.lists.counts (right.entries_of self.now.lists.words.now self.now.lists.capacities self.now.lists.counts area.TEMPLATES)
+            (right.entries_of self.now.lists.words.now self.now.lists.capacities self.now.lists.counts area.TABLES) }
+    {
+        let words = self.lists.words;
+        let templates = self.lists.run_of(row::TEMPLATES);
+        let tables = self.lists.run_of(row::TABLES);
+        for i in 0..tables.count as usize {
+            let at = tables.start + width::TABLES * i;
+            if !table_fits(words, at, self.lists.counts) {
+                return false;
+            }
+            if !table_owns(words, at, templates) {
+                return false;
+            }
         }
-        if !table_owns(words, at, templates) {
-            return false;
-        }
-        at += width::TABLES;
-        left -= 1;
+        true
     }
-    true
-}
 
-// 8, and 10 for a count over its capacity, for a table that names what is not there, or for a TTBL with a template of another provider.
-pub fn fit_together(words: &[u32], capacities: [u32; AREAS], counts: [u32; AREAS]) -> Verdict
-    ensures { result ≡ spec.fit_together words.now capacities counts }
-{
-    if let Verdict::Refused(r) = fit(words, capacities, counts) {
-        return Verdict::Refused(r);
-    }
-    if tables_fit(words, capacities, counts) {
-        return Verdict::Fine;
-    }
-    Verdict::Refused(bounds::own(10))
-}
-
-// The entries that a provider's first table of a kind has in the kind's list; none where it has no such table.
-pub fn owned(
-    words: &[u32],
-    capacities: [u32; AREAS],
-    counts: [u32; AREAS],
-    provider: u32,
-    kind: u32,
-) -> Run
-    requires { spec.Fit words.now capacities counts × (1 ≤ kind) × (kind ≤ 8) }
-    ensures { result ≡ spec.owned words.now capacities counts provider kind }
-{
-    let start = counts::area_at(capacities, counts::row_of(kind));
-    let tables = run_of(capacities, counts, row::TABLES);
-    let key = [provider, kind];
-    let Found::Number(n) = find(words, tables, row::TABLES, TABLE_PROVIDER, &key) else {
-        return Run {
-            start,
-            first: 0,
-            count: 0,
+    // The entries that a provider's first table of a kind has in the kind's list; none where it has no such table.
+    pub fn owned(&self, provider: u32, kind: u32) -> Run
+        requires { (1 ≤ kind) × (kind ≤ 8) }
+        ensures { result ≡ spec.owned self.now.lists.words.now self.now.lists.capacities self.now.lists.counts provider kind }
+    {
+        let words = self.lists.words;
+        let start = counts::area_at(self.lists.capacities, counts::row_of(kind));
+        let tables = self.lists.run_of(row::TABLES);
+        let key = [provider, kind];
+        let Some(n) = find(words, tables, row::TABLES, TABLE_PROVIDER, &key) else {
+            return Run {
+                start,
+                first: 0,
+                count: 0,
+            };
         };
-    };
-    range_at(words, entry_at(tables.start, row::TABLES, n), start)
+        range_at(words, entry_at(tables.start, row::TABLES, n), start)
+    }
 }
 
 // What is stored for an event that belongs to no provider: no provider's number, since a list has no more entries.
@@ -286,14 +282,11 @@ fn take_events(owners: &mut [u32; 65536], first: u32, count: u32, provider: u32)
     requires { (length owners.old ≡ 65536) × (first + count ≤ 65536) × (provider < owner.NOBODY) }
     ensures { owner.EventsTaken owners.old first (first + count) provider owners.new result }
 {
-    let mut at = first as usize;
-    let end = at + (count as usize);
-    while at < end {
+    for at in first as usize..(first + count) as usize {
         if owners[at] != NOBODY {
             return false;
         }
         owners[at] = provider;
-        at += 1;
     }
     true
 }
@@ -326,38 +319,30 @@ fn all_owned(owners: &[u32; 65536], n: u32) -> bool
     requires { n ≤ 65536 }
     ensures { owner.AllOwned owners.now n result }
 {
-    let mut i: usize = 0;
-    while i < (n as usize) {
+    for i in 0..n as usize {
         if owners[i] == NOBODY {
             return false;
         }
-        i += 1;
     }
     true
 }
 
-// Stores for each event the number of the provider that it belongs to; false, where one is in no provider's EVNT range or in two. Each
-// table is looked at once, and each event twice at most.
-pub fn owners(
-    words: &[u32],
-    capacities: [u32; AREAS],
-    counts: [u32; AREAS],
-    owners: &mut [u32; 65536],
-) -> bool
-    requires fit { spec.Fit words.now capacities counts × (right.tables_fit counts (right.entries_of words.now capacities counts area.TABLES) ≡ true) }
-    requires owners_value { owners.old ≡ owner.nobodys }
-    ensures value { result ≡ events_owned words.now capacities counts }
-    ensures owns { owner.Owns (right.entries_of words.now capacities counts area.TABLES) (area.of area.EVENTS counts) owners.new result }
-{
-    let mut seen = [false; 65536];
-    let mut at = counts::area_at(capacities, row::TABLES);
-    let mut left = counts[row::TABLES];
-    while 0 < left {
-        if !take_table(words, at, &mut seen, owners) {
-            return false;
+impl<'a> Together<'a> {
+    // Stores for each event the number of the provider that it belongs to; false, where one is in no provider's EVNT range or in two. Each
+    // table is looked at once, and each event twice at most.
+    pub fn owners(&self, owners: &mut [u32; 65536]) -> bool
+        requires { owners.old ≡ owner.nobodys }
+        ensures value { result ≡ events_owned self.now.lists.words.now self.now.lists.capacities self.now.lists.counts }
+        ensures owns { owner.Owns (right.entries_of self.now.lists.words.now self.now.lists.capacities self.now.lists.counts area.TABLES) (area.of area.EVENTS self.now.lists.counts) owners.new result }
+    {
+        let tables = self.lists.run_of(row::TABLES);
+        let mut seen = [false; 65536];
+        for i in 0..tables.count as usize {
+            let at = tables.start + width::TABLES * i;
+            if !take_table(self.lists.words, at, &mut seen, owners) {
+                return false;
+            }
         }
-        at += width::TABLES;
-        left -= 1;
+        all_owned(owners, self.lists.counts[row::EVENTS])
     }
-    all_owned(owners, counts[row::EVENTS])
 }

@@ -1,6 +1,6 @@
 -- The lookup by key, by what was tested and found.
 use Prim.{tt}
-use Rattle.std.specs.Prelude.{ℕ, ◌+◌, ◌/◌, ◌≤◌, ◌<◌, ◌≡◌, Bool, true, false, ◌&&◌, length}
+use Rattle.std.specs.Prelude.{Option, Some, None, Err, ℕ, ◌+◌, ◌/◌, ◌≤◌, ◌<◌, ◌≡◌, Bool, true, false, ◌&&◌, length, Ok}
 use Rattle.std.proofs.Math.Path.{refl, ap, ap₂, sym}
 use Rattle.std.proofs.Common.{◌∙◌, arith}
 use mathlib.Core.List.{List, [], ◌∷◌, ◌++◌, map, map-append}
@@ -10,24 +10,19 @@ use Rattle.blob.proofs.Asks.{inside_append}
 use Rattle.blob.specs.Laid.{laid, flat}
 use Rattle.blob.specs.Places.{Each}
 use Rattle.blob.specs.declared.Refusal.{Refusal}
-use Rattle.blob.specs.declared.Verdict.TheVariants as verdicts
 use Rattle.format.specs.Area.{PROVIDERS, TABLES, EVENTS, TEMPLATES, place, width}
 use Rattle.format.specs.Entry.{GUID, EVENT_TEMPLATE}
 use Rattle.format.specs.Table.{EVNT, TTBL}
 use Rattle.format.specs.Lists.{Entry, guid_words}
 use Rattle.format.specs.Answer.{own, lent_enough}
 use Rattle.format.specs.Lookup.{entries_of, word_of, select, position, positions, counts_fit, tables_fit, tables_own, once, keyed, key_words, guid_at_offset, guids_of_provider, guids_of, by_key, guids_found, guids_held}
-use Rattle.format.specs.declared.GuidsFound.TheVariants as guids
 use Rattle.format.specs.declared.Key.{Key}
-use Rattle.lists.specs.declared.Found.{Found}
-use Rattle.lists.specs.declared.Found.TheVariants as founds
 use Rattle.lists.specs.declared.Run.{Run}
 use Rattle.lists.specs.Fit.{refused_as, inside, whole-entries}
 use Rattle.lists.specs.Found.{entries, few, run_of, has, found, tables_hold, fit_together, Fit, owned}
 use Rattle.lists.specs.Search.{and_true, told, position-single, positions-none, run-positions}
 use Rattle.lists.specs.Tables.{owned-entries}
-use Rattle.lookup.specs.declared.Came.{Came}
-use Rattle.lookup.specs.declared.Came.TheVariants as cames
+use Rattle.lookup.specs.declared.Walk.{Walk}
 use Rattle.lookup.specs.Given.{Part, guid_of, firsts, unset, came_to, came, next_provider, arrived, numbers_from, numbers_of_all, new_at, room_for}
 use Rattle.lookup.specs.Once.{keyed-guids, numbers_below, given-once}
 
@@ -35,13 +30,13 @@ and_false : (b : Bool) → (b && false) ≡ false
 and_false true = refl
 and_false false = refl
 
--- the verdicts before anything is looked for
+-- the refusals before anything is looked for
 module _ (words capacities counts : List ℕ) (key : Key) (lent : List ℕ) where
   pub key-wide : 65536 < length lent / GUID → by_key words capacities counts key lent ≡ refused (own 8)
   unfolding by_key
   key-wide h = rw (lt-leb _ _ h, and_false)
 
-  pub key-refused : length lent / GUID ≤ 65536 → (r : Refusal) → fit_together words capacities counts ≡ verdicts.Refused r → by_key words capacities counts key lent ≡ refused r
+  pub key-refused : length lent / GUID ≤ 65536 → (r : Refusal) → fit_together words capacities counts ≡ Err r → by_key words capacities counts key lent ≡ refused r
   unfolding by_key
   key-refused h r e =
       rw (le-leb _ _ h, and_true (lent_enough capacities words))
@@ -65,9 +60,9 @@ module _ (words capacities counts guid key : List ℕ) (providers : Run) (marks 
   unfolding flat firsts
   come_to = rw (position-single (has 0 guid) providers.first (entries (width PROVIDERS) providers words)) (go (found searched) refl)
     where
-      go : (f : Found) → found searched ≡ f → left ≡ new_at words capacities counts guid key marks (came words capacities counts providers (told f))
-      go founds.Nothing e = rw (positions-none (has 0 guid) providers.first (entries (width PROVIDERS) providers words) e)
-      go (founds.Number p) e =
+      go : (f : Option ℕ) → found searched ≡ f → left ≡ new_at words capacities counts guid key marks (came words capacities counts providers (told f))
+      go None e = rw (positions-none (has 0 guid) providers.first (entries (width PROVIDERS) providers words) e)
+      go (Some p) e =
           ap (λ (ps : List ℕ). firsts words (run_of capacities counts (place TEMPLATES)) marks (flat (λ n. numbers_from words capacities counts guid key n) ps))
           (run-positions (has 0 guid) words (width PROVIDERS) providers p e).0
 
@@ -89,8 +84,8 @@ module _ (words capacities counts : List ℕ) (f : Fit words capacities counts) 
 
   -- where the lookup stands, at a provider that was found
   pub came-to : (guid : List ℕ) (providers : Run) → few (width PROVIDERS) providers words → (p : ℕ)
-      → found (position (has 0 guid) providers.first (entries (width PROVIDERS) providers words)) ≡ founds.Number p
-      → (p < providers.first + providers.count) × arrived words list providers (cames.To (came_to words capacities counts providers p))
+      → found (position (has 0 guid) providers.first (entries (width PROVIDERS) providers words)) ≡ Some p
+      → (p < providers.first + providers.count) × arrived words list providers (Some (came_to words capacities counts providers p))
   came-to guid providers s p e =
       let r = run-positions (has 0 guid) words (width PROVIDERS) providers p e in
       (omega (arith, r.2), ((events-in p, templates_in p, (omega (arith, r.1, r.2, s), omega (arith, r.1, r.2, s))), omega (arith, r.1, r.2)))
@@ -129,7 +124,7 @@ module _ (words capacities counts : List ℕ) (f : Fit words capacities counts) 
         ∙ sym (given-once words list (inside words capacities counts f (place TEMPLATES)) (flat from ps) (below_all ps))
 
     -- by the first provider that was come to, or none
-    pub key-given : (c : Came) → next_provider words capacities counts (guid_words key.guid) (run_of capacities counts (place PROVIDERS)) ≡ c
+    pub key-given : (c : Option Walk) → next_provider words capacities counts (guid_words key.guid) (run_of capacities counts (place PROVIDERS)) ≡ c
         → guids_of words capacities counts key ≡ map (guid_of words list) (new_at words capacities counts (guid_words key.guid) (key_words key) unset c)
     key-given c e =
         all-given
@@ -138,7 +133,7 @@ module _ (words capacities counts : List ℕ) (f : Fit words capacities counts) 
         ∙ ap (new_at words capacities counts (guid_words key.guid) (key_words key) unset) e)
 
 -- where nothing is given, there is room
-pub given-none : (lent : List ℕ) (gs : List Entry) → length gs ≤ 0 → (guids.Given 0 ≡ guids_found (room_for lent gs)) × (lent ≡ guids_held lent (room_for lent gs))
+pub given-none : (lent : List ℕ) (gs : List Entry) → length gs ≤ 0 → (Ok 0 ≡ guids_found (room_for lent gs)) × (lent ≡ guids_held lent (room_for lent gs))
 unfolding flat laid
 given-none lent [] n =
     let h : 0 ≤ length lent / GUID = omega arith in
@@ -147,5 +142,5 @@ given-none lent [] n =
 given-none lent (g ∷ gs) n = absurd (omega arith)
 
 -- a refusal keeps the lent list
-pub refusal-keeps : (lent : List ℕ) (o : Outcome (List Entry)) (q r : Refusal) → q ≡ r → o ≡ refused r → (guids.Refused q ≡ guids_found o) × (lent ≡ guids_held lent o)
-refusal-keeps lent o q r e x = (ap guids.Refused e ∙ ap guids_found (sym x), ap (guids_held lent) (sym x))
+pub refusal-keeps : (lent : List ℕ) (o : Outcome (List Entry)) (q r : Refusal) → q ≡ r → o ≡ refused r → (Err q ≡ guids_found o) × (lent ≡ guids_held lent o)
+refusal-keeps lent o q r e x = (ap Err e ∙ ap guids_found (sym x), ap (guids_held lent) (sym x))

@@ -2,13 +2,14 @@
 -- them, and what was given is marked by these.
 use Prim.{Unit}
 use Prim.Native.Nat.{ℕ, zero, suc, ◌+◌, ◌*◌, ◌-◌, ◌/◌, ◌≤◌, ◌<◌, min}
-use Rattle.std.specs.Prelude.{◌≡◌, Bool, not, ◌&&◌, length, get_or, take, drop, set, replicate, eqb, leb}
+use Rattle.std.specs.Prelude.{Option, Some, None, ◌≡◌, Bool, not, ◌&&◌, length, get_or, take, drop, set, replicate, eqb, leb, Ok, Result}
 use Rattle.std.proofs.Math.Path.{refl, ap, ap₂}
 use Rattle.std.proofs.Common.{sym, ◌∙◌, subst, length-take, length-drop, take-take, eq-eqb, ne_eqb, le-leb}
 use Rattle.std.proofs.Math.Bool.{true, false}
 use mathlib.Core.List.{List, [], ◌∷◌, ◌++◌, map, append_assoc}
 use native.Mathlib.Omega.{arith}
 use Rattle.std.proofs.lemmas.Bool.{lt-leb}
+use Rattle.blob.specs.declared.Refusal.{Refusal}
 use Rattle.blob.specs.Reading.{Outcome, done, refused, choose}
 use Rattle.blob.specs.Laid.{laid, laid_more, flat, flat_map}
 use Rattle.format.specs.Area.{PROVIDERS, EVENTS, TEMPLATES, GUIDS, place, width}
@@ -16,28 +17,13 @@ use Rattle.format.specs.Entry.{GUID, KEY, EVENT_TEMPLATE, TEMPLATE_GUID}
 use Rattle.format.specs.Table.{EVNT, TTBL}
 use Rattle.format.specs.Answer.{too_small}
 use Rattle.format.specs.Lists.{Entry}
-use Rattle.format.specs.Lookup.{entries_from, word_of, alike, position, positions}
-use Rattle.format.specs.declared.TemplateFound.{TemplateFound}
-use Rattle.format.specs.declared.TemplateFound.TheVariants as template
-use Rattle.lists.specs.declared.Found.{Found}
-use Rattle.lists.specs.declared.Found.TheVariants as founds
+use Rattle.format.specs.Lookup.{word_of, alike, position, positions}
 use Rattle.lists.specs.declared.Run.{Run}
-use Rattle.lists.specs.Entries.{entries-length, word_at}
+use Rattle.lists.specs.Entries.{entries-length, word_at, rest, rest_more, rest_none}
 use Rattle.lists.specs.Found.{entries, few, has, found, lowest, run_of, owned}
 use Rattle.lists.specs.Found as lists
 use Rattle.lists.specs.Search.{told as single, nothing-found, same_found, position-found, position-single}
-use Rattle.lookup.specs.declared.Next.{Next}
-use Rattle.lookup.specs.declared.Next.TheVariants as nexts
 use Rattle.lookup.specs.declared.Walk.{Walk}
-use Rattle.lookup.specs.declared.Came.{Came}
-use Rattle.lookup.specs.declared.Came.TheVariants as cames
-use Rattle.lookup.specs.declared.Step.{Step}
-use Rattle.lookup.specs.declared.Step.TheVariants as steps
-
--- as the answer of the lookup by offset
-abbrev pub shown : Found → TemplateFound
-shown founds.Nothing = template.Nothing
-shown (founds.Number n) = template.Number n
 
 -- list 9, whole, in the words; and a run of it
 abbrev pub Listed : Run → List ℕ → Type 0
@@ -59,14 +45,18 @@ number_of words templates key e =
 abbrev pub number_at : List ℕ → Run → List ℕ → ℕ → List ℕ
 number_at words templates key at = number_of words templates key (take (width EVENTS) (drop at words))
 
+-- those of a run from one of them on, by its number
+abbrev pub from : Run → ℕ → Run
+from r n = record { start = r.start; first = n; count = r.first + r.count - n }
+
 -- the numbers of the templates that events give
 abbrev pub numbers : List ℕ → Run → List ℕ → Run → List ℕ
 numbers words templates key events = flat (number_of words templates key) (entries (width EVENTS) events words)
 
 -- a template that was found, where it is not marked
-abbrev pub unmarked : List Bool → Found → Found
-unmarked marks founds.Nothing = founds.Nothing
-unmarked marks (founds.Number n) = choose (get_or marks n false) founds.Nothing (founds.Number n)
+abbrev pub unmarked : List Bool → Option ℕ → Option ℕ
+unmarked marks None = None
+unmarked marks (Some n) = choose (get_or marks n false) None (Some n)
 
 -- a mark, with some words at a place that are a GUID that is given; marks of some templates, so; and of all in list 9
 abbrev pub mark_of : List ℕ → List ℕ → ℕ → ℕ → List Bool → Bool
@@ -88,18 +78,18 @@ abbrev pub unset : List Bool
 unset = replicate 65536 false
 
 -- what the next one tells of the events that are left, and of others behind them, with the marks that are then set
-abbrev pub told : List ℕ → Run → Run → List ℕ → List Bool → List ℕ → Next → List ℕ
-told words list templates key marks others nexts.Over = firsts words list marks others
-told words list templates key marks others (nexts.Template n rest) = n ∷ firsts words list marks (numbers words templates key rest ++ others)
+abbrev pub told : List ℕ → Run → Run → List ℕ → List Bool → List ℕ → Option (ℕ × Run) → List ℕ
+told words list templates key marks others None = firsts words list marks others
+told words list templates key marks others (Some (n, rest)) = n ∷ firsts words list marks (numbers words templates key rest ++ others)
 
-abbrev pub Tells : List ℕ → Run → Run → List ℕ → List Bool → Run → List Bool → Next → Type 0
+abbrev pub Tells : List ℕ → Run → Run → List ℕ → List Bool → Run → List Bool → Option (ℕ × Run) → Type 0
 Tells words list templates key marks events marks' r =
     (others : List ℕ) → firsts words list marks (numbers words templates key events ++ others) ≡ told words list templates key marks' others r
 
 -- the next one is a template, and the events behind it end where all do
-abbrev pub behind : Run → Run → Next → Type 0
-behind events list nexts.Over = Unit
-behind events list (nexts.Template n rest) =
+abbrev pub behind : Run → Run → Option (ℕ × Run) → Type 0
+behind events list None = Unit
+behind events list (Some (n, rest)) =
     (n < list.count) × (rest.start ≡ events.start) × (rest.first + rest.count ≡ events.first + events.count)
 
 -- Where the lookup stands: in the words, with a part of list 9.
@@ -112,18 +102,18 @@ came_to words capacities counts providers p =
     record { events = owned words capacities counts p EVNT; templates = owned words capacities counts p TTBL; providers = lists.behind providers p }
 
 -- by the number that is found; none or one
-abbrev pub came : List ℕ → List ℕ → List ℕ → Run → List ℕ → Came
-came words capacities counts providers [] = cames.Nowhere
-came words capacities counts providers (p ∷ ps) = cames.To (came_to words capacities counts providers p)
+abbrev pub came : List ℕ → List ℕ → List ℕ → Run → List ℕ → Option Walk
+came words capacities counts providers [] = None
+came words capacities counts providers (p ∷ ps) = Some (came_to words capacities counts providers p)
 
-abbrev pub next_provider : List ℕ → List ℕ → List ℕ → List ℕ → Run → Came
+abbrev pub next_provider : List ℕ → List ℕ → List ℕ → List ℕ → Run → Option Walk
 next_provider words capacities counts guid providers =
     came words capacities counts providers (position (has 0 guid) providers.first (entries (width PROVIDERS) providers words))
 
 -- it stands there, with fewer providers behind it
-abbrev pub arrived : List ℕ → Run → Run → Came → Type 0
-arrived words list providers cames.Nowhere = Unit
-arrived words list providers (cames.To w) = Stands words list w × (w.providers.count < providers.count)
+abbrev pub arrived : List ℕ → Run → Run → Option Walk → Type 0
+arrived words list providers None = Unit
+arrived words list providers (Some w) = Stands words list w × (w.providers.count < providers.count)
 
 module _ (words capacities counts guid key : List ℕ) where
   -- the numbers of the templates that a provider's events give, in its own templates
@@ -142,23 +132,23 @@ module _ (words capacities counts guid key : List ℕ) where
   new_of marks w = firsts words (run_of capacities counts (place TEMPLATES)) marks (numbers_left w)
 
   -- of what there is at a provider that was come to
-  abbrev pub new_at : List Bool → Came → List ℕ
-  new_at marks cames.Nowhere = []
-  new_at marks (cames.To w) = new_of marks w
+  abbrev pub new_at : List Bool → Option Walk → List ℕ
+  new_at marks None = []
+  new_at marks (Some w) = new_of marks w
 
   -- the GUIDs that are given, where none was before, each once
   abbrev pub guids_from : Walk → List Entry
   guids_from w = map (guid_of words (run_of capacities counts (place TEMPLATES))) (new_of unset w)
 
   -- what a step tells of those that are left, with the marks that are then set
-  abbrev pub stepped : List Bool → Step → List ℕ
-  stepped marks steps.Over = []
-  stepped marks (steps.Template n w) = n ∷ new_of marks w
+  abbrev pub stepped : List Bool → Option (ℕ × Walk) → List ℕ
+  stepped marks None = []
+  stepped marks (Some (n, w)) = n ∷ new_of marks w
 
 -- a step comes to a template, and stands behind it
-abbrev pub onward : List ℕ → Run → Step → Type 0
-onward words list steps.Over = Unit
-onward words list (steps.Template n w) = (n < list.count) × Stands words list w
+abbrev pub onward : List ℕ → Run → Option (ℕ × Walk) → Type 0
+onward words list None = Unit
+onward words list (Some (n, w)) = (n < list.count) × Stands words list w
 
 -- GUIDs, where a lent list has room for them; else 9
 abbrev pub room_for : List ℕ → List Entry → Outcome (List Entry)
@@ -189,101 +179,107 @@ module _ (words : List ℕ) (templates : Run) (key : List ℕ) (e : Entry) where
       go true = position-single _ templates.first (entries (width TEMPLATES) templates words)
       go false = refl
 
-  pub number-below : (n : ℕ) → found (number_of words templates key e) ≡ founds.Number n → n < templates.first + templates.count
+  pub number-below : (n : ℕ) → found (number_of words templates key e) ≡ Some n → n < templates.first + templates.count
   number-below n h = go (alike (take KEY e) key && not (eqb (word_of EVENT_TEMPLATE e) 0)) h
     where
-      go : (t : Bool) → found (choose t (lowest words templates (word_of EVENT_TEMPLATE e)) []) ≡ founds.Number n → n < templates.first + templates.count
+      go : (t : Bool) → found (choose t (lowest words templates (word_of EVENT_TEMPLATE e)) []) ≡ Some n → n < templates.first + templates.count
       go true h =
           omega (arith, (position-found _ templates.first (entries (width TEMPLATES) templates words) n h).2, entries-length (width TEMPLATES) words templates.count (templates.start + width TEMPLATES * templates.first))
       go false h = absurd (nothing-found n h)
 
--- Of templates that are marked, those that are left decide.
-module _ (words guid : List ℕ) (i left at : ℕ) (marks : List Bool) where
-  pub marked_more : 0 < left → (marks' : List Bool) → marks' ≡ set marks i (mark_of words guid (at + TEMPLATE_GUID) i marks)
-      → marked_from words guid i left at marks ≡ marked_from words guid (i + 1) (left - 1) (at + width TEMPLATES) marks'
-  unfolding marked_from
-  marked_more h marks' e =
-      let m : left ≡ suc (left - 1) = omega arith in
-      ap (λ (l : ℕ). marked_from words guid i l at marks) m ∙ ap (marked_from words guid (i + 1) (left - 1) (at + width TEMPLATES)) (sym e)
+-- Of templates that are marked, those from a number on decide: the next one is marked or is not, or none is left.
+module _ (words guid : List ℕ) (n start i : ℕ) (marks : List Bool) where
+  abbrev pub marked_rest : List Bool
+  marked_rest = marked_from words guid i (n - i) (start + width TEMPLATES * i) marks
 
-  pub marked-none : left ≤ 0 → marked_from words guid i left at marks ≡ marks
+  pub marked-none : n ≤ i → marked_rest ≡ marks
   unfolding marked_from
-  marked-none h = let m : left ≡ 0 = omega arith in rw m
+  marked-none h = let m : n - i ≡ 0 = omega arith in rw m
+
+pub marked_more : (words guid : List ℕ) (n start i : ℕ) (marks : List Bool) → i < n → (marks' : List Bool) → marks' ≡ set marks i (mark_of words guid (start + width TEMPLATES * i + TEMPLATE_GUID) i marks)
+    → marked_rest words guid n start i marks ≡ marked_rest words guid n start (i + 1) marks'
+unfolding marked_from
+marked_more words guid n start i marks h marks' e =
+    let m : n - i ≡ suc (n - (i + 1)) = omega arith in
+    let a : start + width TEMPLATES * i + width TEMPLATES ≡ start + width TEMPLATES * (i + 1) = omega arith in
+    ap (λ (l : ℕ). marked_from words guid i l (start + width TEMPLATES * i) marks) m ∙ ap₂ (marked_from words guid (i + 1) (n - (i + 1))) a (sym e)
 
 -- Of events that are left, the next one decides: it gives nothing, or what is marked, or a template whose GUID is new.
 module _ (words : List ℕ) (list : Run) (marks : List Bool) where
-  skip : (f : Found) (rest : List ℕ) → unmarked marks f ≡ founds.Nothing → firsts words list marks (single f ++ rest) ≡ firsts words list marks rest
+  skip : (f : Option ℕ) (rest : List ℕ) → unmarked marks f ≡ None → firsts words list marks (single f ++ rest) ≡ firsts words list marks rest
   unfolding firsts
-  skip founds.Nothing rest e = refl
-  skip (founds.Number m) rest e = go (get_or marks m false) e
+  skip None rest e = refl
+  skip (Some m) rest e = go (get_or marks m false) e
     where
-      go : (t : Bool) → choose t founds.Nothing (founds.Number m) ≡ founds.Nothing
+      go : (t : Bool) → choose t None (Some m) ≡ None
           → choose t (firsts words list marks rest) (m ∷ firsts words list (marked words list (guid_of words list m) marks) rest) ≡ firsts words list marks rest
       go true e = refl
       go false e = absurd (nothing-found m (sym e))
 
-  give : (f : Found) (rest : List ℕ) (n : ℕ) → unmarked marks f ≡ founds.Number n
-      → (firsts words list marks (single f ++ rest) ≡ n ∷ firsts words list (marked words list (guid_of words list n) marks) rest) × (f ≡ founds.Number n)
+  give : (f : Option ℕ) (rest : List ℕ) (n : ℕ) → unmarked marks f ≡ Some n
+      → (firsts words list marks (single f ++ rest) ≡ n ∷ firsts words list (marked words list (guid_of words list n) marks) rest) × (f ≡ Some n)
   unfolding firsts
-  give founds.Nothing rest n e = absurd (nothing-found n e)
-  give (founds.Number m) rest n e = go (get_or marks m false) e
+  give None rest n e = absurd (nothing-found n e)
+  give (Some m) rest n e = go (get_or marks m false) e
     where
-      go : (t : Bool) → choose t founds.Nothing (founds.Number m) ≡ founds.Number n
+      go : (t : Bool) → choose t None (Some m) ≡ Some n
           → (choose t (firsts words list marks rest) (m ∷ firsts words list (marked words list (guid_of words list m) marks) rest) ≡ n ∷ firsts words list (marked words list (guid_of words list n) marks) rest)
-          × (founds.Number m ≡ founds.Number n)
+          × (Some m ≡ Some n)
       go true e = absurd (nothing-found n e)
       go false e = (ap (λ k. k ∷ firsts words list (marked words list (guid_of words list k) marks) rest) (same_found m n e), e)
 
-module _ (words : List ℕ) (list templates : Run) (key : List ℕ) (marks : List Bool) (start first left at : ℕ) (h : 0 < left) (a : at ≡ start + width EVENTS * first) where
-  numbers_more : numbers words templates key (record { start = start; first = first; count = left })
-      ≡ single (found (number_at words templates key at)) ++ numbers words templates key (record { start = start; first = first + 1; count = left - 1 })
-  unfolding entries_from flat
+module _ (words : List ℕ) (list templates events : Run) (key : List ℕ) (marks : List Bool) (n at : ℕ) (h : n < events.first + events.count) (a : at ≡ events.start + width EVENTS * n) where
+  numbers_more : numbers words templates key (from events n) ≡ single (found (number_at words templates key at)) ++ numbers words templates key (from events (n + 1))
+  unfolding rest flat
   numbers_more =
-      let m : left ≡ suc (left - 1) = omega arith in
-      let b : at + width EVENTS ≡ start + width EVENTS * (first + 1) = omega arith in
-      ap₂ (λ l p. flat (number_of words templates key) (entries_from (width EVENTS) l p words)) m (sym a)
-      ∙ ap₂ (λ (ns : List ℕ) (p : ℕ). ns ++ flat (number_of words templates key) (entries_from (width EVENTS) (left - 1) p words))
-      (number-single words templates key (take (width EVENTS) (drop at words))) b
+      ap (flat (number_of words templates key)) (rest_more (width EVENTS) words (events.first + events.count) events.start n h)
+      ∙ ap (λ (ns : List ℕ). ns ++ numbers words templates key (from events (n + 1)))
+      (ap (λ p. number_at words templates key p) (sym a) ∙ number-single words templates key (take (width EVENTS) (drop at words)))
 
-  pub next-skip : (others : List ℕ) → unmarked marks (found (number_at words templates key at)) ≡ founds.Nothing
-      → firsts words list marks (numbers words templates key (record { start = start; first = first; count = left }) ++ others)
-      ≡ firsts words list marks (numbers words templates key (record { start = start; first = first + 1; count = left - 1 }) ++ others)
-  next-skip others e =
+  numbers-others : (others : List ℕ) → firsts words list marks (numbers words templates key (from events n) ++ others)
+      ≡ firsts words list marks (single (found (number_at words templates key at)) ++ (numbers words templates key (from events (n + 1)) ++ others))
+  numbers-others others =
       ap (λ (ns : List ℕ). firsts words list marks (ns ++ others)) numbers_more
       ∙ ap (firsts words list marks) (append_assoc (single (found (number_at words templates key at))) _ others)
-      ∙ skip words list marks (found (number_at words templates key at)) _ e
 
-  pub next-give : (others : List ℕ) (n : ℕ) (marks' : List Bool) → unmarked marks (found (number_at words templates key at)) ≡ founds.Number n → marks' ≡ marked words list (guid_of words list n) marks
-      → firsts words list marks (numbers words templates key (record { start = start; first = first; count = left }) ++ others)
-      ≡ n ∷ firsts words list marks' (numbers words templates key (record { start = start; first = first + 1; count = left - 1 }) ++ others)
-  next-give others n marks' e m =
-      ap (λ (ns : List ℕ). firsts words list marks (ns ++ others)) numbers_more
-      ∙ ap (firsts words list marks) (append_assoc (single (found (number_at words templates key at))) _ others)
-      ∙ (give words list marks (found (number_at words templates key at)) _ n e).0
-      ∙ ap (λ (ms : List Bool). n ∷ firsts words list ms (numbers words templates key (record { start = start; first = first + 1; count = left - 1 }) ++ others)) (sym m)
+  pub next-skip : (others : List ℕ) → unmarked marks (found (number_at words templates key at)) ≡ None
+      → firsts words list marks (numbers words templates key (from events n) ++ others) ≡ firsts words list marks (numbers words templates key (from events (n + 1)) ++ others)
+  next-skip others e = numbers-others others ∙ skip words list marks (found (number_at words templates key at)) _ e
+
+  pub next-give : (others : List ℕ) (t : ℕ) (marks' : List Bool) → unmarked marks (found (number_at words templates key at)) ≡ Some t → marks' ≡ marked words list (guid_of words list t) marks
+      → firsts words list marks (numbers words templates key (from events n) ++ others) ≡ t ∷ firsts words list marks' (numbers words templates key (from events (n + 1)) ++ others)
+  next-give others t marks' e m =
+      numbers-others others
+      ∙ (give words list marks (found (number_at words templates key at)) _ t e).0
+      ∙ ap (λ (ms : List Bool). t ∷ firsts words list ms (numbers words templates key (from events (n + 1)) ++ others)) (sym m)
 
 -- by what it is, in list 9 as it is known
-module _ (words : List ℕ) (list templates : Run) (key : List ℕ) (marks : List Bool) (events : Run) (marks' : List Bool) (r : Next)
+module _ (words : List ℕ) (list templates : Run) (key : List ℕ) (marks : List Bool) (events : Run) (marks' : List Bool) (r : Option (ℕ × Run))
     (h : Tells words list templates key marks events marks' r) (l : Run) (e : list ≡ l) (others : List ℕ) where
   tells : firsts words l marks (numbers words templates key events ++ others) ≡ told words l templates key marks' others r
   tells = subst (λ (l : Run). Tells words l templates key marks events marks' r) e h others
 
-  pub tells_over : r ≡ nexts.Over → firsts words l marks (numbers words templates key events ++ others) ≡ firsts words l marks' others
+  pub tells_over : r ≡ None → firsts words l marks (numbers words templates key events ++ others) ≡ firsts words l marks' others
   tells_over o = tells ∙ ap (told words l templates key marks' others) o
 
-  pub tells_template : (n : ℕ) (rest : Run) → r ≡ nexts.Template n rest
+  pub tells_template : (n : ℕ) (rest : Run) → r ≡ Some (n, rest)
       → firsts words l marks (numbers words templates key events ++ others) ≡ n ∷ firsts words l marks' (numbers words templates key rest ++ others)
   tells_template n rest o = tells ∙ ap (told words l templates key marks' others) o
 
-pub next-below : (words : List ℕ) (templates : Run) (key : List ℕ) (marks : List Bool) (at n : ℕ) → unmarked marks (found (number_at words templates key at)) ≡ founds.Number n
+pub next-below : (words : List ℕ) (templates : Run) (key : List ℕ) (marks : List Bool) (at n : ℕ) → unmarked marks (found (number_at words templates key at)) ≡ Some n
     → n < templates.first + templates.count
 next-below words templates key marks at n e =
     number-below words templates key (take (width EVENTS) (drop at words)) n (give words templates marks (found (number_at words templates key at)) [] n e).1
 
-pub next-none : (words : List ℕ) (list templates : Run) (key : List ℕ) (marks : List Bool) (start first left : ℕ) (others : List ℕ) → left ≤ 0
-    → firsts words list marks (numbers words templates key (record { start = start; first = first; count = left }) ++ others) ≡ firsts words list marks others
-unfolding entries_from flat
-next-none words list templates key marks start first left others h = let m : left ≡ 0 = omega arith in rw m
+pub next-none : (words : List ℕ) (list templates events : Run) (key : List ℕ) (marks : List Bool) (n : ℕ) (others : List ℕ) → events.first + events.count ≤ n
+    → firsts words list marks (numbers words templates key (from events n) ++ others) ≡ firsts words list marks others
+unfolding rest flat
+next-none words list templates events key marks n others h =
+    ap (λ (es : List Entry). firsts words list marks (flat (number_of words templates key) es ++ others)) (rest_none (width EVENTS) words (events.first + events.count) events.start n h)
+
+-- from its first one on, a run is whole
+pub from-first : (r : Run) → from r r.first ≡ r
+from-first r = let c : r.first + r.count - r.first ≡ r.count = omega arith in rw c
 
 none_left : {A : Type 0} (l : List A) → length l ≤ 0 → l ≡ []
 none_left [] h = refl
@@ -291,13 +287,13 @@ none_left (x ∷ l) h = absurd (omega arith)
 
 -- Of GUIDs that are stored, those that are left decide.
 module _ (G : ℕ → List ℕ) (guids : List ℕ) (to : ℕ) (ns : List ℕ) where
-  pub guids_more : (n : ℕ) (ms guids' : List ℕ) → ns ≡ n ∷ ms → guids' ≡ laid guids to (G n) → length (G n) ≡ GUID
-      → laid guids to (flat G ns) ≡ laid guids' (to + GUID) (flat G ms)
+  pub guids_more : (n : ℕ) (ms guids' : List ℕ) (to' : ℕ) → ns ≡ n ∷ ms → guids' ≡ laid guids to (G n) → length (G n) ≡ GUID → to' ≡ to + GUID
+      → laid guids to (flat G ns) ≡ laid guids' to' (flat G ms)
   unfolding flat
-  guids_more n ms guids' e g l =
+  guids_more n ms guids' to' e g l t =
       ap (λ (x : List ℕ). laid guids to (flat G x)) e
       ∙ laid_more guids to (G n) (flat G ms)
-      ∙ ap₂ (λ (x : List ℕ) (m : ℕ). laid x (to + m) (flat G ms)) (sym g) l
+      ∙ ap₂ (λ (x : List ℕ) (m : ℕ). laid x m (flat G ms)) (sym g) (ap (λ m. to + m) l ∙ sym t)
 
   pub guids_none : length ns ≤ 0 → laid guids to (flat G ns) ≡ guids
   unfolding flat laid

@@ -2,7 +2,7 @@
 -- templates the events are resolved in.
 use Prim.{tt}
 use Prim.Native.Nat.{ℕ, zero, suc, ◌+◌, ◌*◌, ◌-◌, ◌≤◌, ◌<◌}
-use Rattle.std.specs.Prelude.{◌≡◌, Bool, not, ◌&&◌, length, get_or, take, drop, eqb}
+use Rattle.std.specs.Prelude.{Option, Some, None, ◌≡◌, Bool, not, ◌&&◌, length, get_or, take, drop, eqb}
 use Rattle.std.proofs.Math.Path.{refl, ap, ap₂, sym}
 use Rattle.std.proofs.Common.{◌∙◌, add-zero, zero-add, mul-zero}
 use Rattle.std.proofs.Math.Bool.{true, false}
@@ -18,8 +18,6 @@ use Rattle.format.specs.Area.{TEMPLATES, width}
 use Rattle.format.specs.Entry.{GUID, KEY, EVENT_TEMPLATE, TEMPLATE_OFFSET, TEMPLATE_GUID}
 use Rattle.format.specs.Lists.{Entry}
 use Rattle.format.specs.Lookup.{alike, among, once, word_of, select, guid_at_offset}
-use Rattle.lists.specs.declared.Found.{Found}
-use Rattle.lists.specs.declared.Found.TheVariants as founds
 use Rattle.lists.specs.declared.Run.{Run}
 use Rattle.lists.specs.Entries.{entries-length, entry, some_of}
 use Rattle.lists.specs.Found.{entries, found, lowest}
@@ -89,9 +87,9 @@ module _ (words : List ℕ) (list : Run) (f : Listed list words) where
   given-once ns b =
       firsts_once unset [] ns (omega (arith, f, length-replicate 65536 false), λ n h. get_or-replicate 65536 n false false (omega (arith, f))) b
 
-below-told : (m : ℕ) (x : Found) → ((n : ℕ) → x ≡ founds.Number n → n < m) → Each (λ n. n < m) (told x)
-below-told m founds.Nothing s = tt
-below-told m (founds.Number n) s = (s n refl, tt)
+below-told : (m : ℕ) (x : Option ℕ) → ((n : ℕ) → x ≡ Some n → n < m) → Each (λ n. n < m) (told x)
+below-told m None s = tt
+below-told m (Some n) s = (s n refl, tt)
 
 module _ (words : List ℕ) (list templates : Run) (f : Part list templates words) where
   -- the GUID at an offset is that of the lowest template there
@@ -102,10 +100,10 @@ module _ (words : List ℕ) (list templates : Run) (f : Part list templates word
       p : Entry → Bool
       p t = eqb (word_of TEMPLATE_OFFSET t) offset
 
-      go : (x : Found) → found (lowest words templates offset) ≡ x → guid_at_offset (entries (width TEMPLATES) templates words) offset ≡ map (guid_of words list) (told x)
-      go founds.Nothing e =
+      go : (x : Option ℕ) → found (lowest words templates offset) ≡ x → guid_at_offset (entries (width TEMPLATES) templates words) offset ≡ map (guid_of words list) (told x)
+      go None e =
           ap (λ (l : List Entry). map (λ t. take GUID (drop TEMPLATE_GUID t)) (take 1 l)) (select-none p templates.first (entries (width TEMPLATES) templates words) e)
-      go (founds.Number n) e =
+      go (Some n) e =
           let at = templates.start + width TEMPLATES * templates.first in
           let h = position-found p templates.first (entries (width TEMPLATES) templates words) n e in
           let l : n - templates.first < templates.count = omega (arith, h.1, h.2, entries-length (width TEMPLATES) words templates.count at) in

@@ -2,26 +2,18 @@
 #![tactic(auto)]
 
 ghost use Rattle.std.specs.Prelude.{◌≡◌, true, ◌+◌, ◌*◌, ◌/◌, ◌≤◌, ◌<◌, min, length};
-ghost use Rattle.blob.specs.Reading.{choose};
 ghost use Rattle.blob.specs.Laid.{laid, flat};
 ghost use Rattle.format.specs.Area as area;
 ghost use Rattle.format.specs.Entry as entry;
 ghost use Rattle.format.specs.Lookup as right;
-ghost use Rattle.lists.specs.Found as lists;
+ghost use Rattle.lists.specs.Found as runs;
 ghost use Rattle.lookup.specs.Given as spec;
 
-use blob::{Refusal, Verdict};
+use blob::Refusal;
 use format::entry::{EVENT_TEMPLATE, GUID, TEMPLATE_GUID, TEMPLATE_PROVIDER};
-use format::list::{AREAS, MOST, row, width};
-use format::{GuidsFound, Key, TemplateFound, kind, list};
-use lists::{Found, Run};
-
-// The next of a provider's events that gives a GUID that was not given before: the number of its template, and the events behind it.
-#[derive(Clone, Copy)]
-pub enum Next {
-    Template(u32, Run),
-    Over,
-}
+use format::list::{MOST, row, width};
+use format::{Key, kind, list};
+use lists::{Fitted, Lists, Run, Together};
 
 // Where the lookup by key stands: the events that are left of a provider, the templates that they are resolved in, and the providers
 // behind it.
@@ -32,79 +24,55 @@ pub struct Walk {
     pub providers: Run,
 }
 
-// A provider that the lookup came to, if there is one.
-#[derive(Clone, Copy)]
-pub enum Came {
-    To(Walk),
-    Nowhere,
-}
-
-// The next of all events that does so, and where the lookup stands behind it.
-#[derive(Clone, Copy)]
-pub enum Step {
-    Template(u32, Walk),
-    Over,
-}
-
-// What was found, as the answer.
-fn shown(f: Found) -> TemplateFound
-    ensures { result ≡ spec.shown f }
-{
-    match f {
-        Found::Number(n) => TemplateFound::Number(n),
-        Found::Nothing => TemplateFound::Nothing,
-    }
-}
-
 // The number in list 9 of the lowest template entry in a range whose provider and offset are equal.
 pub fn template_at(
-    words: &[u32],
-    capacities: [u32; AREAS],
-    counts: [u32; AREAS],
+    lists: &Lists,
     provider: u32,
     first: u32,
     count: u32,
     offset: u32,
-) -> TemplateFound
-    ensures { right.AllowedAt words.now capacities counts provider first count offset result }
+) -> Result<Option<u32>, Refusal>
+    ensures { right.AllowedAt lists.now.words.now lists.now.capacities lists.now.counts provider first count offset result }
 {
-    if let Verdict::Refused(r) = lists::fit(words, capacities, counts) {
-        return TemplateFound::Refused(r);
+    lists.fit()?;
+    if (lists.counts[row::TEMPLATES] as u64) < (first as u64) + (count as u64) {
+        return Err(bounds::own(10));
     }
-    if (counts[row::TEMPLATES] as u64) < (first as u64) + (count as u64) {
-        return TemplateFound::Refused(bounds::own(10));
-    }
-    let start = counts::area_at(capacities, row::TEMPLATES);
+    let start = counts::area_at(lists.capacities, row::TEMPLATES);
     let range = Run {
         start,
         first,
         count,
     };
     let key = [provider, offset];
-    shown(lists::find(words, range, row::TEMPLATES, TEMPLATE_PROVIDER, &key))
+    Ok(lists::find(lists.words, range, row::TEMPLATES, TEMPLATE_PROVIDER, &key))
 }
 
 // The number of the template that an event gives, where its GUID was not given before: of the lowest at the event's offset, where its key
 // is equal and it has an offset.
-fn fresh(words: &[u32], at: usize, templates: Run, key: &[u32], marks: &[bool; 65536]) -> Found
+fn fresh(
+    words: &[u32],
+    at: usize,
+    templates: Run,
+    key: &[u32],
+    marks: &[bool; 65536],
+) -> Option<u32>
     requires events_in_bounds { (at + area.width area.EVENTS ≤ length words.now) × (length key.now ≡ entry.KEY) }
-    requires few { lists.few (area.width area.TEMPLATES) templates words.now }
-    ensures { result ≡ spec.unmarked marks.now (lists.found (spec.number_at words.now templates key.now at)) }
+    requires few { runs.few (area.width area.TEMPLATES) templates words.now }
+    ensures { result ≡ spec.unmarked marks.now (runs.found (spec.number_at words.now templates key.now at)) }
 {
     if !lists::same(words, at, key) {
-        return Found::Nothing;
+        return None;
     }
     let offset = words[at + EVENT_TEMPLATE];
     if offset == 0 {
-        return Found::Nothing;
+        return None;
     }
-    let Found::Number(n) = lists::at_offset(words, templates, offset) else {
-        return Found::Nothing;
-    };
+    let n = lists::at_offset(words, templates, offset)?;
     if marks[n as usize] {
-        return Found::Nothing;
+        return None;
     }
-    Found::Number(n)
+    Some(n)
 }
 
 // The GUID of a template, by its number in list 9.
@@ -117,29 +85,15 @@ fn guid_of<'a>(words: &'a [u32], list: Run, n: u32) -> &'a [u32]
     &words[from..to]
 }
 
-fn either(a: bool, b: bool) -> bool
-    ensures { result ≡ choose a true b }
-{
-    if a {
-        return true;
-    }
-    b
-}
-
 // Marks those of all templates that have a GUID.
 fn mark(words: &[u32], list: Run, guid: &[u32], marks: &mut [bool; 65536])
     requires { spec.Listed list words.now × (length guid.now ≡ entry.GUID) }
     ensures { marks.new ≡ spec.marked words.now list guid.now marks.old }
 {
-    let mut at = list.start;
-    let mut left = list.count;
-    let mut i: usize = 0;
-    while 0 < left {
+    for i in 0..list.count as usize {
+        let at = list.start + width::TEMPLATES * i;
         let given = lists::same(words, at + TEMPLATE_GUID, guid);
-        marks[i] = either(given, marks[i]);
-        at += width::TEMPLATES;
-        left -= 1;
-        i += 1;
+        marks[i] = given || marks[i];
     }
 }
 
@@ -151,54 +105,37 @@ fn next_new(
     list: Run,
     key: &[u32],
     marks: &mut [bool; 65536],
-) -> Next
-    requires few { lists.few (area.width area.EVENTS) events words.now × (length key.now ≡ entry.KEY) }
+) -> Option<(u32, Run)>
+    requires few { runs.few (area.width area.EVENTS) events words.now × (length key.now ≡ entry.KEY) }
     requires part { spec.Part list templates words.now }
     ensures tells { spec.Tells words.now list templates key.now marks.old events marks.new result }
     ensures behind { spec.behind events list result }
 {
-    let mut first = events.first;
-    let mut left = events.count;
-    while 0 < left {
-        let at = lists::entry_at(events.start, row::EVENTS, first);
-        first += 1;
-        left -= 1;
-        if let Found::Number(n) = fresh(words, at, templates, key, marks) {
+    for number in events.first..events.first + events.count {
+        let at = lists::entry_at(events.start, row::EVENTS, number);
+        if let Some(n) = fresh(words, at, templates, key, marks) {
             mark(words, list, guid_of(words, list, n), marks);
-            return Next::Template(
-                n,
-                Run {
-                    start: events.start,
-                    first,
-                    count: left,
-                },
-            );
+            return Some((n, lists::behind(events, number)));
         }
     }
-    Next::Over
+    None
 }
 
 // Where the lookup stands when it comes to the first of some providers that has a GUID: that one's events, its templates, and those of the
 // providers that are behind it.
-fn next_provider(
-    words: &[u32],
-    capacities: [u32; AREAS],
-    counts: [u32; AREAS],
-    providers: Run,
-    guid: &[u32],
-) -> Came
-    requires fit { lists.Fit words.now capacities counts × (right.tables_fit counts (right.entries_of words.now capacities counts area.TABLES) ≡ true) }
-    requires guid_len { (length guid.now ≡ entry.GUID) × lists.few (area.width area.PROVIDERS) providers words.now }
-    ensures value { result ≡ spec.next_provider words.now capacities counts guid.now providers }
-    ensures arrived { spec.arrived words.now (lists.run_of capacities counts (area.place area.TEMPLATES)) providers result }
+fn next_provider(together: &Together, providers: Run, guid: &[u32]) -> Option<Walk>
+    requires guid_len { (length guid.now ≡ entry.GUID) × runs.few (area.width area.PROVIDERS) providers together.now.lists.words.now }
+    ensures value { result ≡ spec.next_provider together.now.lists.words.now together.now.lists.capacities together.now.lists.counts guid.now providers }
+    ensures arrived { spec.arrived together.now.lists.words.now (runs.run_of together.now.lists.capacities together.now.lists.counts (area.place area.TEMPLATES)) providers result }
 {
-    let Found::Number(p) = lists::find(words, providers, row::PROVIDERS, 0, guid) else {
-        return Came::Nowhere;
+    let p = lists::find(together.lists.words, providers, row::PROVIDERS, 0, guid)?;
+    let fitted = Fitted {
+        lists: together.lists,
     };
-    let events = lists::owned(words, capacities, counts, p, kind::EVNT);
-    let templates = lists::owned(words, capacities, counts, p, kind::TTBL);
+    let events = fitted.owned(p, kind::EVNT);
+    let templates = fitted.owned(p, kind::TTBL);
     let behind = lists::behind(providers, p);
-    Came::To(Walk {
+    Some(Walk {
         events,
         templates,
         providers: behind,
@@ -207,127 +144,79 @@ fn next_provider(
 
 // The next of the events that are left, of all providers with a GUID in their order, that gives a GUID which is not marked.
 fn advance(
-    words: &[u32],
-    capacities: [u32; AREAS],
-    counts: [u32; AREAS],
+    together: &Together,
     walk: Walk,
     guid: &[u32],
     key: &[u32],
     marks: &mut [bool; 65536],
-) -> Step
-    requires fit { lists.Fit words.now capacities counts × (right.tables_fit counts (right.entries_of words.now capacities counts area.TABLES) ≡ true) }
+) -> Option<(u32, Walk)>
     requires guid_len { (length guid.now ≡ entry.GUID) × (length key.now ≡ entry.KEY) }
-    requires stands { spec.Stands words.now (lists.run_of capacities counts (area.place area.TEMPLATES)) walk }
-    ensures walk_after { spec.new_of words.now capacities counts guid.now key.now marks.old walk
-        ≡ spec.stepped words.now capacities counts guid.now key.now marks.new result }
-    ensures onward { spec.onward words.now (lists.run_of capacities counts (area.place area.TEMPLATES)) result }
+    requires stands { spec.Stands together.now.lists.words.now (runs.run_of together.now.lists.capacities together.now.lists.counts (area.place area.TEMPLATES)) walk }
+    ensures walk_after { spec.new_of together.now.lists.words.now together.now.lists.capacities together.now.lists.counts guid.now key.now marks.old walk
+        ≡ spec.stepped together.now.lists.words.now together.now.lists.capacities together.now.lists.counts guid.now key.now marks.new result }
+    ensures onward { spec.onward together.now.lists.words.now (runs.run_of together.now.lists.capacities together.now.lists.counts (area.place area.TEMPLATES)) result }
 {
-    let list = lists::run_of(capacities, counts, row::TEMPLATES);
-    let mut events = walk.events;
-    let mut templates = walk.templates;
-    let mut providers = walk.providers;
+    let words = together.lists.words;
+    let list = together.lists.run_of(row::TEMPLATES);
+    let mut at = walk;
     loop {
-        if let Next::Template(n, behind) = next_new(words, events, templates, list, key, marks) {
-            return Step::Template(
-                n,
-                Walk {
-                    events: behind,
-                    templates,
-                    providers,
-                },
-            );
+        if let Some((n, events)) = next_new(words, at.events, at.templates, list, key, marks) {
+            return Some((n, Walk { events, ..at }));
         }
-        let Came::To(next) = next_provider(words, capacities, counts, providers, guid) else {
-            return Step::Over;
-        };
-        events = next.events;
-        templates = next.templates;
-        providers = next.providers;
+        at = next_provider(together, at.providers, guid)?;
     }
 }
 
 // How many GUIDs the events that are left give, each once; one more than the most that are asked for, where there are more.
-fn count(
-    words: &[u32],
-    capacities: [u32; AREAS],
-    counts: [u32; AREAS],
-    walk: Walk,
-    guid: &[u32],
-    key: &[u32],
-    most: u32,
-) -> u32
-    requires fit { lists.Fit words.now capacities counts × (right.tables_fit counts (right.entries_of words.now capacities counts area.TABLES) ≡ true) }
+fn count(together: &Together, walk: Walk, guid: &[u32], key: &[u32], most: u32) -> u32
     requires guid_len { (length guid.now ≡ entry.GUID) × (length key.now ≡ entry.KEY) × (most ≤ 65536) }
-    requires stands { spec.Stands words.now (lists.run_of capacities counts (area.place area.TEMPLATES)) walk }
-    ensures { result ≡ min (length (spec.new_of words.now capacities counts guid.now key.now spec.unset walk)) (most + 1) }
+    requires stands { spec.Stands together.now.lists.words.now (runs.run_of together.now.lists.capacities together.now.lists.counts (area.place area.TEMPLATES)) walk }
+    ensures { result ≡ min (length (spec.new_of together.now.lists.words.now together.now.lists.capacities together.now.lists.counts guid.now key.now spec.unset walk)) (most + 1) }
 {
     let mut marks = [false; 65536];
     let mut at = walk;
-    let mut n: u32 = 0;
-    while n <= most {
-        let Step::Template(_, behind) = advance(
-            words, capacities, counts, at, guid, key, &mut marks,
-        ) else {
+    for n in 0..most + 1 {
+        let Some((_, behind)) = advance(together, at, guid, key, &mut marks) else {
             return n;
         };
         at = behind;
-        n += 1;
     }
-    n
+    most + 1
 }
 
 // Stores the GUIDs that they give, each once: so many.
-fn fill(
-    words: &[u32],
-    capacities: [u32; AREAS],
-    counts: [u32; AREAS],
-    walk: Walk,
-    guid: &[u32],
-    key: &[u32],
-    n: u32,
-    guids: &mut [u32],
-)
-    requires fit { lists.Fit words.now capacities counts × (right.tables_fit counts (right.entries_of words.now capacities counts area.TABLES) ≡ true) }
+fn fill(together: &Together, walk: Walk, guid: &[u32], key: &[u32], n: u32, guids: &mut [u32])
     requires guid_len { (length guid.now ≡ entry.GUID) × (length key.now ≡ entry.KEY) }
-    requires stands { spec.Stands words.now (lists.run_of capacities counts (area.place area.TEMPLATES)) walk }
-    requires n_value { (n ≡ length (spec.new_of words.now capacities counts guid.now key.now spec.unset walk)) × (entry.GUID * n ≤ length guids.old) }
-    ensures { guids.new ≡ laid guids.old 0 (flat (spec.guid_of words.now (lists.run_of capacities counts (area.place area.TEMPLATES)))
-        (spec.new_of words.now capacities counts guid.now key.now spec.unset walk)) }
+    requires stands { spec.Stands together.now.lists.words.now (runs.run_of together.now.lists.capacities together.now.lists.counts (area.place area.TEMPLATES)) walk }
+    requires n_value { (n ≡ length (spec.new_of together.now.lists.words.now together.now.lists.capacities together.now.lists.counts guid.now key.now spec.unset walk)) × (entry.GUID * n ≤ length guids.old) }
+    ensures { guids.new ≡ laid guids.old 0 (flat (spec.guid_of together.now.lists.words.now (runs.run_of together.now.lists.capacities together.now.lists.counts (area.place area.TEMPLATES)))
+        (spec.new_of together.now.lists.words.now together.now.lists.capacities together.now.lists.counts guid.now key.now spec.unset walk)) }
 {
-    let list = lists::run_of(capacities, counts, row::TEMPLATES);
+    let list = together.lists.run_of(row::TEMPLATES);
     let mut marks = [false; 65536];
     let mut at = walk;
-    let mut to = 0;
-    let mut left = n;
-    while 0 < left {
-        let Step::Template(t, behind) = advance(
-            words, capacities, counts, at, guid, key, &mut marks,
-        ) else {
+    for i in 0..n as usize {
+        let Some((t, behind)) = advance(together, at, guid, key, &mut marks) else {
             return;
         };
-        words::put(guids, to, guid_of(words, list, t));
+        words::put(guids, GUID * i, guid_of(together.lists.words, list, t));
         at = behind;
-        to += GUID;
-        left -= 1;
     }
 }
 
 // Stores the GUIDs that the events with a key give, from where the lookup stands, each once, and tells how many; 9, and nothing is stored,
 // where the lent list is too short.
 fn give(
-    words: &[u32],
-    capacities: [u32; AREAS],
-    counts: [u32; AREAS],
+    together: &Together,
     walk: Walk,
     guid: &[u32],
     k: Key,
     guids: &mut [u32],
-) -> GuidsFound
-    requires fit { lists.Fit words.now capacities counts × (right.tables_fit counts (right.entries_of words.now capacities counts area.TABLES) ≡ true) }
+) -> Result<u32, Refusal>
     requires guid_len { (length guid.now ≡ entry.GUID) × (length guids.old / entry.GUID ≤ 65536) }
-    requires stands { spec.Stands words.now (lists.run_of capacities counts (area.place area.TEMPLATES)) walk }
-    ensures value { result ≡ right.guids_found (spec.room_for guids.old (spec.guids_from words.now capacities counts guid.now (right.key_words k) walk)) }
-    ensures guids_after { guids.new ≡ right.guids_held guids.old (spec.room_for guids.old (spec.guids_from words.now capacities counts guid.now (right.key_words k) walk)) }
+    requires stands { spec.Stands together.now.lists.words.now (runs.run_of together.now.lists.capacities together.now.lists.counts (area.place area.TEMPLATES)) walk }
+    ensures value { result ≡ right.guids_found (spec.room_for guids.old (spec.guids_from together.now.lists.words.now together.now.lists.capacities together.now.lists.counts guid.now (right.key_words k) walk)) }
+    ensures guids_after { guids.new ≡ right.guids_held guids.old (spec.room_for guids.old (spec.guids_from together.now.lists.words.now together.now.lists.capacities together.now.lists.counts guid.now (right.key_words k) walk)) }
 {
     let fields = [
         k.identifier,
@@ -340,9 +229,9 @@ fn give(
         k.high,
     ];
     let capacity = (guids.len() / GUID) as u32;
-    let n = count(words, capacities, counts, walk, guid, &fields, capacity);
+    let n = count(together, walk, guid, &fields, capacity);
     if capacity < n {
-        return GuidsFound::Refused(Refusal {
+        return Err(Refusal {
             code: 9,
             field: 0,
             place: 0,
@@ -351,33 +240,25 @@ fn give(
         });
     }
     if n == 0 {
-        return GuidsFound::Given(0);
+        return Ok(0);
     }
-    fill(words, capacities, counts, walk, guid, &fields, n, guids);
-    GuidsFound::Given(n)
+    fill(together, walk, guid, &fields, n, guids);
+    Ok(n)
 }
 
 // The GUIDs of the templates of the events with a key, each once, in first-seen order, into a lent list.
-pub fn templates_for(
-    words: &[u32],
-    capacities: [u32; AREAS],
-    counts: [u32; AREAS],
-    key: Key,
-    guids: &mut [u32],
-) -> GuidsFound
-    ensures { right.AllowedFor words.now capacities counts key guids.old result guids.new }
+pub fn templates_for(lists: &Lists, key: Key, guids: &mut [u32]) -> Result<u32, Refusal>
+    ensures { right.AllowedFor lists.now.words.now lists.now.capacities lists.now.counts key guids.old result guids.new }
 {
     if (MOST as usize) < guids.len() / GUID {
-        return GuidsFound::Refused(bounds::own(8));
+        return Err(bounds::own(8));
     }
-    if let Verdict::Refused(r) = lists::fit_together(words, capacities, counts) {
-        return GuidsFound::Refused(r);
-    }
+    let together = lists.fit_together()?;
     let g = key.guid;
     let guid = [g.a, g.b, g.c, g.d];
-    let providers = lists::run_of(capacities, counts, row::PROVIDERS);
-    let Came::To(walk) = next_provider(words, capacities, counts, providers, &guid) else {
-        return GuidsFound::Given(0);
+    let providers = together.lists.run_of(row::PROVIDERS);
+    let Some(walk) = next_provider(&together, providers, &guid) else {
+        return Ok(0);
     };
-    give(words, capacities, counts, walk, &guid, key, guids)
+    give(&together, walk, &guid, key, guids)
 }

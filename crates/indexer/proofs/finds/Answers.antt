@@ -13,4 +13,4 @@ returns-in_default c =
 
 pub returns : goal.returns
 returns c =
-    sym (finds-some _ c.args.at c.requires.0 _ c.if-offset-eq0.false ∙ some-found _ c.args.templates.first _ _ (sym c.at_offset.ensures ∙ c.in-Number.is))
+    sym (finds-some _ c.args.at c.requires.0 _ c.if-offset-eq0.false ∙ some-found _ c.args.templates.first _ _ (sym c.at_offset.ensures ∙ c.in-Some.is))

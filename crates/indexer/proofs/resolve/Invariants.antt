@@ -9,10 +9,10 @@ use Rattle.indexer.proofs.resolve.Given as goal
 
 abbrev pub invariant-loop-left : goal.invariant-loop-left
 invariant-loop-left l =
-    ((l.at + width EVENTS * l.left ≤ length l.words) × (l.i + l.left ≤ 65536))
-    × Knows l.words l.capacities l.counts l.known
-    × (resolved l.words l.capacities l.counts l.initial.owners
-    ≡ resolved_from (entries_of l.words l.capacities l.counts TABLES) (entries_of l.words l.capacities l.counts TEMPLATES) l.owners l.i (entries_from (width EVENTS) l.left l.at l.words))
+    ((l.at + width EVENTS * l.left ≤ length l.together.lists.words.now) × (l.i + l.left ≤ 65536))
+    × Knows l.together.lists.words.now l.together.lists.capacities l.together.lists.counts l.known
+    × (resolved l.together.lists.words.now l.together.lists.capacities l.together.lists.counts l.initial.owners
+    ≡ resolved_from (entries_of l.together.lists.words.now l.together.lists.capacities l.together.lists.counts TABLES) (entries_of l.together.lists.words.now l.together.lists.capacities l.together.lists.counts TEMPLATES) l.owners l.i (entries_from (width EVENTS) l.left l.at l.together.lists.words.now))
 
 abbrev pub decreases-loop-left : goal.decreases-loop-left
 decreases-loop-left l = l.left

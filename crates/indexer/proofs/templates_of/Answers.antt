@@ -5,7 +5,7 @@ use Rattle.indexer.proofs.templates_of.Goals as goal
 
 pub returns-then-known-provider : goal.returns-then-known-provider
 returns-then-known-provider c =
-    c.requires.1 ∙ ap (known_of c.args.words.now c.args.capacities c.args.counts) c.if-known-provider.true
+    c.requires ∙ ap (known_of c.args.fitted.now.lists.words.now c.args.fitted.now.lists.capacities c.args.fitted.now.lists.counts) c.if-known-provider.true
 
 pub returns : goal.returns
 returns c = rw c.owned-templates.ensures

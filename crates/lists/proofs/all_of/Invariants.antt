@@ -1,15 +1,13 @@
 -- The invariant: what is left decides.
-use Prim.Native.Nat.{◌+◌, ◌*◌, ◌≤◌}
+use Prim.Native.Nat.{◌+◌}
 use mathlib.Core.Path.{◌≡◌}
-use lib.ListN.{length}
 use Rattle.format.specs.Area.{TEMPLATES, width}
-use Rattle.format.specs.Lookup.{entries_from, all_of}
+use Rattle.format.specs.Lookup.{all_of}
+use Rattle.lists.specs.Entries.{rest}
+use Rattle.lists.specs.Found.{entries}
 use Rattle.lists.proofs.all_of.Given as goal
 
-abbrev pub invariant-loop-left : goal.invariant-loop-left
-invariant-loop-left l =
-    (l.at + width TEMPLATES * l.left ≤ length l.words)
-    × (all_of l.provider (entries_from (width TEMPLATES) l.initial.left l.initial.at l.words) ≡ all_of l.provider (entries_from (width TEMPLATES) l.left l.at l.words))
-
-abbrev pub decreases-loop-left : goal.decreases-loop-left
-decreases-loop-left l = l.left
+abbrev pub invariant-loop-number : goal.invariant-loop-number
+invariant-loop-number l =
+    all_of l.provider (entries (width TEMPLATES) l.templates l.words)
+    ≡ all_of l.provider (rest (width TEMPLATES) l.words (l.templates.first + l.templates.count) l.templates.start l.number)

@@ -1,17 +1,12 @@
 -- The invariant: what is left decides.
-use Prim.Native.Nat.{◌+◌, ◌*◌, ◌≤◌}
-use lib.ListN.{length, get_or}
-use Rattle.format.specs.Lookup.{entries_from, position}
-use Rattle.counts.specs.Short.{widths}
-use Rattle.lists.specs.Found.{has}
+use Prim.Native.Nat.{◌+◌}
 use mathlib.Core.Path.{◌≡◌}
+use Rattle.format.specs.Lookup.{position}
+use Rattle.lists.specs.Entries.{rest}
+use Rattle.lists.specs.Found.{entries, has}
 use Rattle.lists.proofs.find.Given as goal
 
-abbrev pub invariant-loop-left : goal.invariant-loop-left
-invariant-loop-left l =
-    (l.at + get_or widths l.row 0 * l.left ≤ length l.words)
-    × (l.number + l.left ≤ 65536)
-    × (position (has l.from l.key) l.initial.number (entries_from (get_or widths l.row 0) l.initial.left l.initial.at l.words) ≡ position (has l.from l.key) l.number (entries_from (get_or widths l.row 0) l.left l.at l.words))
-
-abbrev pub decreases-loop-left : goal.decreases-loop-left
-decreases-loop-left l = l.left
+abbrev pub invariant-loop-number : goal.invariant-loop-number
+invariant-loop-number l =
+    position (has l.from l.key) l.run.first (entries l.width l.run l.words)
+    ≡ position (has l.from l.key) l.number (rest l.width l.words (l.run.first + l.run.count) l.run.start l.number)

@@ -1,12 +1,9 @@
 -- The invariant: what is left decides.
-use mathlib.Core.Path.{refl, ap, ◌∙◌}
+use mathlib.Core.Path.{ap, ◌∙◌}
 use lib.ListN.{length, length-set}
 use Rattle.lists.specs.Owners.{take_next, take_two, take_none}
 use native.Mathlib.Omega.{arith}
 use Rattle.lists.proofs.take_events.Goals as goal
-
-pub loop-at-init : goal.loop-at-init
-loop-at-init c = (refl, λ i. refl)
 
 pub returns-then-owners-at-ne-NOBODY : goal.returns-then-owners-at-ne-NOBODY
 returns-then-owners-at-ne-NOBODY c =
@@ -15,8 +12,7 @@ returns-then-owners-at-ne-NOBODY c =
 
 pub loop-at-preserved : goal.loop-at-preserved
 loop-at-preserved c =
-    let h = c.loop-at-test.true in
-    (simp length-set c.loop-at.invariant.0, λ i. c.loop-at.invariant.1 i ∙ take_next c.loop-at.owners c.args.provider _ _ h (omega arith) (omega arith) c.if-owners-at-ne-NOBODY.false i)
+    (simp length-set c.loop-at.invariant.0, λ i. c.loop-at.invariant.1 i ∙ take_next c.loop-at.owners c.args.provider _ _ c.loop-at-test.true (omega arith) (omega arith) c.if-owners-at-ne-NOBODY.false i)
 
 pub returns : goal.returns
 returns c =

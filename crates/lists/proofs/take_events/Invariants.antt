@@ -1,5 +1,5 @@
 -- The invariant: what is left decides.
-use Prim.Native.Nat.{ℕ, ◌-◌}
+use Prim.Native.Nat.{ℕ, ◌+◌}
 use mathlib.Core.Path.{◌≡◌}
 use mathlib.Core.List.{◌++◌}
 use lib.ListN.{length}
@@ -8,8 +8,5 @@ use Rattle.lists.proofs.take_events.Given as goal
 
 abbrev pub invariant-loop-at : goal.invariant-loop-at
 invariant-loop-at l =
-    (length l.owners ≡ length l.initial.owners)
-    × ((i : ℕ) → given l.initial.owners i ++ claim l.initial.at l.end l.provider i ≡ given l.owners i ++ claim l.at l.end l.provider i)
-
-abbrev pub decreases-loop-at : goal.decreases-loop-at
-decreases-loop-at l = l.end - l.at
+    let end = l.first + l.count in
+    (length l.owners ≡ length l.initial.owners) × ((i : ℕ) → given l.initial.owners i ++ claim l.first end l.provider i ≡ given l.owners i ++ claim l.at end l.provider i)

@@ -8,23 +8,18 @@ use native.Mathlib.Omega.{arith}
 use Rattle.lookup.proofs.count.Goals as goal
 
 pub loop-n-init : goal.loop-n-init
-loop-n-init c =
-    (c.requires.stands, omega arith, omega arith)
+loop-n-init c = (c.requires.stands, omega arith)
 
 pub returns-in_default : goal.returns-in_default
 returns-in_default c =
-    omega (arith, c.loop-n.invariant.2, ap length (c.advance.ensures.walk_after ∙ ap (stepped c.args.words.now c.args.capacities c.args.counts c.args.guid.now c.args.key.now _) c.in_default.is), c.loop-n-test.true)
-
-pub overflow_add-n : goal.overflow_add-n
-overflow_add-n c = omega (arith, c.loop-n-test.true, c.requires.guid_len.2)
-
-pub loop-n-smaller : goal.loop-n-smaller
-loop-n-smaller c = omega (arith, c.loop-n-test.true)
+    let l = c.args.together.now.lists in
+    omega (arith, c.loop-n.invariant.1, ap length (c.advance.ensures.walk_after ∙ ap (stepped l.words.now l.capacities l.counts c.args.guid.now c.args.key.now _) c.in_default.is), c.loop-n-test.true)
 
 pub loop-n-preserved : goal.loop-n-preserved
 loop-n-preserved c =
-    let h = subst (onward c.args.words.now (run_of c.args.capacities c.args.counts (place TEMPLATES))) c.in-Template.is c.advance.ensures.onward in
-    (h.1, omega (arith, c.loop-n-test.true), omega (arith, c.loop-n.invariant.2, ap length (c.advance.ensures.walk_after ∙ ap (stepped c.args.words.now c.args.capacities c.args.counts c.args.guid.now c.args.key.now _) c.in-Template.is)))
+    let l = c.args.together.now.lists in
+    let h = subst (onward l.words.now (run_of l.capacities l.counts (place TEMPLATES))) c.in-Some.is c.advance.ensures.onward in
+    (h.1, omega (arith, c.loop-n.invariant.1, ap length (c.advance.ensures.walk_after ∙ ap (stepped l.words.now l.capacities l.counts c.args.guid.now c.args.key.now _) c.in-Some.is)))
 
 pub returns : goal.returns
-returns c = omega (arith, c.loop-n-test.false, c.loop-n.invariant)
+returns c = omega (arith, c.loop-n-test.false, c.loop-n.invariant.1)

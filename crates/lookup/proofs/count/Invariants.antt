@@ -1,5 +1,5 @@
 -- The invariant: those that are left are the ones that are not counted yet.
-use Prim.Native.Nat.{◌+◌, ◌-◌, ◌≤◌}
+use Prim.Native.Nat.{◌+◌}
 use mathlib.Core.Path.{◌≡◌}
 use lib.ListN.{length}
 use Rattle.format.specs.Area.{TEMPLATES, place}
@@ -9,9 +9,6 @@ use Rattle.lookup.proofs.count.Given as goal
 
 abbrev pub invariant-loop-n : goal.invariant-loop-n
 invariant-loop-n l =
-    Stands l.words (run_of l.capacities l.counts (place TEMPLATES)) l.at
-    × (l.n ≤ l.most + 1)
-    × (length (new_of l.words l.capacities l.counts l.guid l.key unset l.initial.at) ≡ l.n + length (new_of l.words l.capacities l.counts l.guid l.key l.marks l.at))
-
-abbrev pub decreases-loop-n : goal.decreases-loop-n
-decreases-loop-n l = l.most + 1 - l.n
+    let a = l.together.lists in
+    Stands a.words.now (run_of a.capacities a.counts (place TEMPLATES)) l.at
+    × (length (new_of a.words.now a.capacities a.counts l.guid l.key unset l.initial.at) ≡ l.n + length (new_of a.words.now a.capacities a.counts l.guid l.key l.marks l.at))

@@ -9,13 +9,12 @@ use Rattle.lists.specs.Found.{run_of}
 use Rattle.lookup.specs.Given.{unset, guid_of, Stands, new_of}
 use Rattle.lookup.proofs.fill.Given as goal
 
-abbrev pub invariant-loop-left : goal.invariant-loop-left
-invariant-loop-left l =
-    Stands l.words (run_of l.capacities l.counts (place TEMPLATES)) l.at
+abbrev pub invariant-loop-i : goal.invariant-loop-i
+invariant-loop-i l =
+    let a = l.together.lists in
+    let list = run_of a.capacities a.counts (place TEMPLATES) in
+    let left = new_of a.words.now a.capacities a.counts l.guid l.key l.marks l.at in
+    Stands a.words.now list l.at
     × (length l.guids ≡ length l.initial.guids)
-    × ((l.left ≡ length (new_of l.words l.capacities l.counts l.guid l.key l.marks l.at)) × (l.to + GUID * l.left ≤ length l.guids))
-    × (laid l.initial.guids 0 (flat (guid_of l.words (run_of l.capacities l.counts (place TEMPLATES))) (new_of l.words l.capacities l.counts l.guid l.key unset l.initial.at))
-    ≡ laid l.guids l.to (flat (guid_of l.words (run_of l.capacities l.counts (place TEMPLATES))) (new_of l.words l.capacities l.counts l.guid l.key l.marks l.at)))
-
-abbrev pub decreases-loop-left : goal.decreases-loop-left
-decreases-loop-left l = l.left
+    × ((l.n ≡ l.i + length left) × (GUID * l.n ≤ length l.guids))
+    × (laid l.initial.guids 0 (flat (guid_of a.words.now list) (new_of a.words.now a.capacities a.counts l.guid l.key unset l.initial.at)) ≡ laid l.guids (GUID * l.i) (flat (guid_of a.words.now list) left))

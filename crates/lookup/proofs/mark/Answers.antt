@@ -1,20 +1,29 @@
 -- The invariant: what is left decides.
-use mathlib.Core.Path.{refl, ap, sym, ◌∙◌}
-use mathlib.Core.Bool.{true, false}
-use lib.ListN.{get_or, set}
+use Prim.Native.Nat.{◌-◌, ◌+◌, ◌*◌}
+use mathlib.Core.Path.{◌≡◌, ap, ap₂, sym, ◌∙◌}
+use mathlib.Core.Bool.{Bool, true, false}
+use lib.ListN.{length, get_or, set, take, drop}
 use Rattle.blob.specs.Reading.{choose}
-use Rattle.lookup.specs.Given.{marked_more, marked-none}
+use Rattle.lookup.specs.Given.{marked_from, marked_more, marked-none}
 use native.Mathlib.Omega.{arith}
+use Rattle.format.specs.Area.{TEMPLATES, width}
+use Rattle.format.specs.Entry.{TEMPLATE_GUID}
+use Rattle.format.specs.Lookup.{alike}
 use Rattle.lookup.proofs.mark.Goals as goal
+use Rattle.lookup.proofs.mark.Goals.{then-given, else-given}
 
-pub loop-left-init : goal.loop-left-init
-loop-left-init c = (omega arith, omega arith, refl)
+pub loop-i-init : goal.loop-i-init
+loop-i-init c =
+    let n : c.args.list.count - 0 ≡ c.args.list.count = omega arith in
+    let s : c.args.list.start + width TEMPLATES * 0 ≡ c.args.list.start = omega arith in
+    ap₂ (λ l at. marked_from c.args.words.now c.args.guid.now 0 l at c.args.marks.now) (sym n) (sym s)
 
-pub loop-left-preserved : goal.loop-left-preserved
-loop-left-preserved c =
-    let m = ap (set c.loop-left.marks c.loop-left.i) (c.either.ensures ∙ ap (λ t. choose t true (get_or c.loop-left.marks c.loop-left.i false)) c.same-given.ensures) in
-    (omega arith, omega arith, c.loop-left.invariant.2 ∙ marked_more c.args.words.now c.args.guid.now _ _ _ _ c.loop-left-test.true _ m)
+pub loop-i-preserved : goal.loop-i-preserved
+loop-i-preserved c =
+    let either = λ (t : Bool). choose t true (get_or c.loop-i.marks c.loop-i.i false) in
+    let m : c.if-given.marks ≡ either (alike (take (length c.args.guid.now) (drop (c.args.list.start + width TEMPLATES * c.loop-i.i + TEMPLATE_GUID) c.args.words.now)) c.args.guid.now) =
+    elim c.if-given.branch [ then-given w ↦ w.marks-is ∙ w.if-given.true ∙ ap either (sym w.if-given.true ∙ c.same-given.ensures) | else-given w ↦ w.marks-is ∙ ap either (sym w.if-given.false ∙ c.same-given.ensures) ] in
+    c.loop-i.invariant ∙ marked_more c.args.words.now c.args.guid.now _ _ _ _ c.loop-i-test.true _ (ap (set c.loop-i.marks c.loop-i.i) m)
 
 pub returns : goal.returns
-returns c =
-    sym (c.loop-left.invariant.2 ∙ marked-none c.args.words.now c.args.guid.now _ _ _ _ c.loop-left-test.false)
+returns c = sym (c.loop-i.invariant ∙ marked-none c.args.words.now c.args.guid.now _ _ _ _ c.loop-i-test.false)

@@ -1,32 +1,39 @@
 -- The invariant: what is left decides.
 use Prim.{tt}
 use mathlib.Core.Path.{refl, ap, sym, ◌∙◌}
+use mathlib.Core.List.{◌++◌}
 use lib.ListN.{length}
-use Rattle.lookup.specs.Given.{marked, guid-length, next-skip, next-give, next-below, next-none}
+use Rattle.lists.specs.declared.Run.{Run}
+use Rattle.lookup.specs.Given.{numbers, firsts, marked, guid-length, from-first, next-skip, next-give, next-below, next-none}
 use native.Mathlib.Omega.{arith}
 use Rattle.lookup.proofs.next_new.Goals as goal
 
-pub loop-left-init : goal.loop-left-init
-loop-left-init c = ((refl, omega arith), λ others. refl)
+pub loop-number-init : goal.loop-number-init
+loop-number-init c =
+    λ others. ap (λ (r : Run). firsts c.args.words.now c.args.list c.args.marks.now (numbers c.args.words.now c.args.templates c.args.key.now r ++ others)) (sym (from-first c.args.events))
 
 pub guid_of-requires : goal.guid_of-requires
 guid_of-requires c =
-    (c.requires.part.0, omega (arith, c.requires.part, next-below c.args.words.now c.args.templates c.args.key.now c.loop-left.marks c.entry_at-at.result _ (sym c.fresh.ensures ∙ c.in-Number.is)))
+    (c.requires.part.0, omega (arith, c.requires.part, next-below c.args.words.now c.args.templates c.args.key.now c.loop-number.marks c.entry_at-at.result _ (sym c.fresh.ensures ∙ c.in-Some.is)))
 
 pub mark-requires : goal.mark-requires
 mark-requires c =
-    (c.requires.part.0, ap length c.guid_of.ensures ∙ guid-length c.args.words.now c.args.list _ c.requires.part.0 (omega (arith, c.requires.part, next-below c.args.words.now c.args.templates c.args.key.now c.loop-left.marks c.entry_at-at.result _ (sym c.fresh.ensures ∙ c.in-Number.is))))
+    (c.requires.part.0, ap length c.guid_of.ensures ∙ guid-length c.args.words.now c.args.list _ c.requires.part.0 (omega (arith, c.requires.part, next-below c.args.words.now c.args.templates c.args.key.now c.loop-number.marks c.entry_at-at.result _ (sym c.fresh.ensures ∙ c.in-Some.is))))
 
-pub returns-in-Number : goal.returns-in-Number
-returns-in-Number c =
-    let t = c.loop-left-test.true in
-    let m = c.mark.ensures ∙ ap (λ u. marked c.args.words.now c.args.list u c.loop-left.marks) c.guid_of.ensures in record { tells = λ others. c.loop-left.invariant.1 others ∙ next-give c.args.words.now c.args.list c.args.templates c.args.key.now c.loop-left.marks c.args.events.start _ _ c.entry_at-at.result t c.entry_at-at.ensures others _ _ (sym c.fresh.ensures ∙ c.in-Number.is) m; behind = (omega (arith, c.requires.part, next-below c.args.words.now c.args.templates c.args.key.now c.loop-left.marks c.entry_at-at.result _ (sym c.fresh.ensures ∙ c.in-Number.is)), refl, omega (arith, t, c.loop-left.invariant.0)) }
+pub returns-in-Some : goal.returns-in-Some
+returns-in-Some c =
+    let m = c.mark.ensures ∙ ap (λ u. marked c.args.words.now c.args.list u c.loop-number.marks) c.guid_of.ensures in
+    rw c.behind.ensures (
+    record {
+      tells = λ others. c.loop-number.invariant others ∙ next-give c.args.words.now c.args.list c.args.templates c.args.events c.args.key.now c.loop-number.marks _ c.entry_at-at.result c.loop-number-test.true c.entry_at-at.ensures others _ _ (sym c.fresh.ensures ∙ c.in-Some.is) m;
+      behind = (omega (arith, c.requires.part, next-below c.args.words.now c.args.templates c.args.key.now c.loop-number.marks c.entry_at-at.result _ (sym c.fresh.ensures ∙ c.in-Some.is)), refl, omega (arith, c.loop-number-test.true));
+    }
+    )
 
-pub loop-left-preserved : goal.loop-left-preserved
-loop-left-preserved c =
-    let t = c.loop-left-test.true in
-    ((omega (arith, t, c.loop-left.invariant.0), omega (arith, c.loop-left.invariant.0)), λ others. c.loop-left.invariant.1 others ∙ next-skip c.args.words.now c.args.list c.args.templates c.args.key.now c.loop-left.marks c.args.events.start _ _ c.entry_at-at.result t c.entry_at-at.ensures others (sym c.fresh.ensures ∙ c.in_default.is))
+pub loop-number-preserved : goal.loop-number-preserved
+loop-number-preserved c =
+    λ others. c.loop-number.invariant others ∙ next-skip c.args.words.now c.args.list c.args.templates c.args.events c.args.key.now c.loop-number.marks _ c.entry_at-at.result c.loop-number-test.true c.entry_at-at.ensures others (sym c.fresh.ensures ∙ c.in_default.is)
 
 pub returns : goal.returns
 returns c =
-    record { tells = λ others. c.loop-left.invariant.1 others ∙ next-none c.args.words.now c.args.list c.args.templates c.args.key.now _ _ _ _ others c.loop-left-test.false; behind = tt }
+    record { tells = λ others. c.loop-number.invariant others ∙ next-none c.args.words.now c.args.list c.args.templates c.args.events c.args.key.now _ _ others c.loop-number-test.false; behind = tt }
