@@ -31,9 +31,12 @@ module _ {A R : Type 0} (f : A → R) (g : Refusal → R) (o : Outcome A) where
 pub not_fine : {A : Type 0} {a : A} (r : Refusal) → ◌≡◌ {A = Result A Refusal} (Err r) (Ok a) → ⊥
 not_fine r h = let z : ◌≡◌ {A = ℕ} 0 1 = cc in omega arith
 
--- the refusal that a `?` hands on is the one that was answered
+-- a `?` hands on the refusal that was answered
+pub handed : {T : Type 0} {q : Refusal} (r : Result T Refusal) → IsErrAnd r (λ e. e ≡ q) → r ≡ Err q
+handed r h = let p = err_from_is_err_and r h in p.1 ∙ ap Err p.2
+
 pub handed_on : {T : Type 0} {r x : Result T Refusal} {q : Refusal} → IsErrAnd r (λ e. e ≡ q) → Err q ≡ x → r ≡ x
-handed_on {r = r} h e = let p = err_from_is_err_and r h in p.1 ∙ ap Err p.2 ∙ e
+handed_on h e = handed _ h ∙ e
 
 pub fine-done : {A : Type 0} (o : Outcome (List A)) → verdict o ≡ Ok tt → o ≡ done (values o)
 fine-done (done vs) v = refl

@@ -3,20 +3,11 @@ use Prim.Native.Nat.{ℕ}
 use Rattle.std.specs.Prelude.{Bool, true, false, ◌≡◌, refl, List, [], ◌∷◌, length, leb}
 use Rattle.std.proofs.Common.{ap, sym, ◌∙◌, append-nil}
 use native.Mathlib.Omega.{arith}
-use Rattle.blob.specs.Laid.{laid, laid-between}
+use Rattle.blob.specs.Laid.{laid, laid-between, laid-whole}
 use Rattle.blob.specs.Reading.{refused, choose}
 use Rattle.format.specs.Answer.{answer, needing, held, own}
 use Rattle.format.proofs.Theorems.Determined.{needs_refused}
 use Rattle.format.specs.Call.{misfit}
-
--- numbers laid into as many are all that is there
-pub laid-whole : (a ws : List ℕ) → length a ≡ length ws → laid a 0 ws ≡ ws
-unfolding laid
-laid-whole [] [] h = refl
-laid-whole [] (w ∷ ws) h = absurd (omega arith)
-laid-whole (x ∷ a) [] h = absurd (omega arith)
-laid-whole (x ∷ a) (w ∷ ws) h =
-    sym (simp append-nil at (laid-between (w ∷ []) a [] 0 ws (omega arith))) ∙ ap (λ (l : List ℕ). w ∷ l) (laid-whole a ws (omega arith))
 
 -- a call that misfits touches no word
 pub misfit-keeps : (words : List ℕ) (capacities : List ℕ) (bytes : List ℕ) → words ≡ held words capacities (misfit bytes)
@@ -35,7 +26,7 @@ misfit-needs bytes = either (leb (length bytes) 16777216)
     either true = needs_refused (own 8)
     either false = needs_refused (own 7)
 
--- and behind five others
+-- numbers laid behind five others
 pub laid-behind_five : (a b c d e : ℕ) (l ws : List ℕ) → length l ≡ length ws → laid (a ∷ b ∷ c ∷ d ∷ e ∷ l) 5 ws ≡ a ∷ b ∷ c ∷ d ∷ e ∷ ws
 laid-behind_five a b c d e l ws h =
     sym (simp append-nil at (laid-between (a ∷ b ∷ c ∷ d ∷ e ∷ []) l [] 0 ws (omega arith))) ∙ ap (λ (x : List ℕ). a ∷ b ∷ c ∷ d ∷ e ∷ x) (laid-whole l ws h)

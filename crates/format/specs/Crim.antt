@@ -1,8 +1,8 @@
 -- CRIM: "signature (tested at once), size, two u16 versions, provider count; read field by field, all before size is tested. Size under
 -- 16, or over the lent length, is 3 at 0. Only the first size bytes are the blob." (layouts)
-use Rattle.std.specs.Prelude.{ℕ, ◌+◌, ◌*◌, List, take, leb, eqb, Ok, Err, Result}
+use Rattle.std.specs.Prelude.{ℕ, ◌+◌, ◌*◌, List, take, leb, eqb, Result}
 use Rattle.blob.specs.declared.Refusal.{Refusal}
-use Rattle.blob.specs.Reading.{Reading, got, room, Outcome, done, demand, run, then, ◌>>=◌, number, many, answer, as_result}
+use Rattle.blob.specs.Reading.{Reading, got, room, Outcome, done, demand, run, then, ◌>>=◌, number, many, as_result}
 use Rattle.format.specs.Field.{CRIM_signature, CRIM_size, CRIM_major_version, CRIM_minor_version, CRIM_provider_count, CRIM_provider_descriptor_array}
 use Rattle.format.specs.Refuse.{whole, wrong_signature, size_out}
 use Rattle.format.specs.Definition.{guid_at, step}

@@ -2,7 +2,7 @@
 -- capacity or a fault named below, then 9." (finding a template)
 use Rattle.std.specs.Prelude.{ℕ, zero, suc, ◌+◌, ◌/◌, ◌≡◌, Bool, true, false, not, ◌&&◌, ◌||◌, List, [], ◌∷◌, map, length, get_or, take, drop, leb, ltb, eqb, Ok, Err, Result, Some, None, Option}
 use Rattle.blob.specs.declared.Refusal.{Refusal}
-use Rattle.blob.specs.Reading.{Outcome, done, refused, choose, answer, as_result}
+use Rattle.blob.specs.Reading.{Outcome, done, refused, choose, as_result}
 use Rattle.blob.specs.Laid.{laid, flat}
 use Rattle.format.specs.Area.{PROVIDERS, TABLES, EVENTS, TEMPLATES, GUIDS, rows, place, width, of}
 use Rattle.format.specs.Entry.{TABLE_PROVIDER, TABLE_KIND, TABLE_FIRST, TABLE_COUNT, GUID, KEY, EVENT_TEMPLATE, TEMPLATE_PROVIDER, TEMPLATE_OFFSET, TEMPLATE_GUID}

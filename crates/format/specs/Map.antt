@@ -1,8 +1,8 @@
 -- MAPS with VMAP, BMAP and others. "(16 bytes; bytes 12 to 15 not read): region as for TTBL, minimum 16. Count 0 ends there.
 -- count − 1 offsets from byte 16 must fit the blob, not the region (3). Map 0 starts right after them." (layouts)
-use Rattle.std.specs.Prelude.{ℕ, ◌+◌, ◌-◌, ◌*◌, min, List, [], ◌∷◌, leb, eqb, Ok, Err, Result}
+use Rattle.std.specs.Prelude.{ℕ, ◌+◌, ◌-◌, ◌*◌, min, List, [], ◌∷◌, leb, eqb, Result}
 use Rattle.blob.specs.declared.Refusal.{Refusal}
-use Rattle.blob.specs.Reading.{Fault, Reading, got, Outcome, room, choose, demand, ◌>>=◌, number, many, answer, as_result}
+use Rattle.blob.specs.Reading.{Fault, Reading, got, Outcome, room, choose, demand, ◌>>=◌, number, many, as_result}
 use Rattle.format.specs.Field.{MAPS_offsets_array, MAPS_map_offset, MAPS_map_signature, VMAP_size_field, VMAP_header, VMAP_size, VMAP_entries_array, VMAP_map_string, table_size}
 use Rattle.format.specs.Refuse.{whole, within, size_out}
 use Rattle.format.specs.Region.{Region, blob_end, until, against, inside, region_at}

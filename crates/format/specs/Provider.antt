@@ -1,8 +1,8 @@
 -- WEVT: its descriptors, unknown2 words and elements. "(20 bytes; a place past the blob 5, cut short 1): signature, size, message,
 -- descriptor count, unknown2 count." (layouts)
-use Rattle.std.specs.Prelude.{ℕ, ◌+◌, ◌*◌, ◌-◌, min, List, eqb, Ok, Err, Result}
+use Rattle.std.specs.Prelude.{ℕ, ◌+◌, ◌*◌, ◌-◌, min, List, eqb, Result}
 use Rattle.blob.specs.declared.Refusal.{Refusal}
-use Rattle.blob.specs.Reading.{Reading, got, Outcome, room, choose, demand, ◌>>=◌, number, many, each, answer, as_result}
+use Rattle.blob.specs.Reading.{Reading, got, Outcome, room, choose, demand, ◌>>=◌, number, many, each, as_result}
 use Rattle.format.specs.Field.{WEVT_provider_offset, WEVT_header, WEVT_descriptor_array, WEVT_element_offset, WEVT_element_signature, WEVT_unknown2_array, provider_element_offset, unknown_element_header, unknown_element_end}
 use Rattle.format.specs.Refuse.{whole, within, wrong_signature, offset_out}
 use Rattle.format.specs.Table.{EVNT, MAPS, TTBL, kind_of, header_at, header_length, stride, table_end}

@@ -1,9 +1,9 @@
 -- Regions: where the bytes of a TTBL or a MAPS end, the items of a TEMP, and the names in a TEMP or a blob.
 -- "size 0 ends the region at the blob end" (TTBL); "region as for TTBL, minimum 16" (MAPS); "Otherwise size under the header or
 -- past the blob is 3" (tables).
-use Rattle.std.specs.Prelude.{ℕ, ◌+◌, leb, eqb, Ok, Err, Result}
+use Rattle.std.specs.Prelude.{ℕ, ◌+◌, leb, eqb, Result}
 use Rattle.blob.specs.declared.Refusal.{Refusal}
-use Rattle.blob.specs.Reading.{Fault, Reading, got, room, Outcome, choose, demand, ◌>>=◌, answer, as_result}
+use Rattle.blob.specs.Reading.{Fault, Reading, got, room, Outcome, choose, demand, ◌>>=◌, as_result}
 use Rattle.format.specs.Refuse.{size_out}
 
 pub data Region : Type 0 where

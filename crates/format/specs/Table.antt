@@ -1,8 +1,8 @@
 -- Table headers, and the end of a table of records.
 -- "signature, size, count; records from 12 (EVNT from 16). Order: offset (5), header length (1), signature (2), then bounds." (tables)
-use Rattle.std.specs.Prelude.{ℕ, ◌+◌, ◌*◌, List, [], ◌∷◌, get_or, leb, eqb, Ok, Err, Result}
+use Rattle.std.specs.Prelude.{ℕ, ◌+◌, ◌*◌, List, [], ◌∷◌, get_or, leb, eqb, Result}
 use Rattle.blob.specs.declared.Refusal.{Refusal}
-use Rattle.blob.specs.Reading.{Reading, got, Outcome, choose, demand, ◌>>=◌, number, answer, as_result}
+use Rattle.blob.specs.Reading.{Reading, got, Outcome, choose, demand, ◌>>=◌, number, as_result}
 use Rattle.format.specs.Area as area
 use Rattle.format.specs.Area.{DEFINITIONS, EVENTS, TEMPLATES}
 use Rattle.format.specs.Field.{table_offset, table_header, table_size, table_array}

@@ -31,10 +31,6 @@ use Rattle.index.specs.declared.Shape.{Shape}
 use Rattle.index.specs.declared.Place.{Place}
 use Rattle.index.specs.Read.{mosts, shows, word_read, behind_number, behind_row, behind_rows, row_of, rows_of, words_of, Counted, counted_at, counted_read, counted_of, Shaped, narrow, RowStands, RowsStand, RowGiven, RowsGiven, counted_words, CountedStands, CountedGiven, Stands, Giving, RowLeft, RowsLeft, Parts}
 
--- what `?` hands on of a refusal
-pub handed_on : {T : Type 0} {q : Refusal} (r : Result T Refusal) → IsErrAnd r (λ y. y ≡ q) → r ≡ Err q
-handed_on r h = let p = err_from_is_err_and r h in p.1 ∙ ap Err p.2
-
 -- what was found, by what is told of it
 module _ {A R : Type 0} (f : A → R) (o : Outcome A) where
   pub was_found : (x : R) → Ok x ≡ shows f o → (a : A) × (o ≡ done a) × (f a ≡ x)

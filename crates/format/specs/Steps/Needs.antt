@@ -1,10 +1,10 @@
 -- How many entries a list needs, as far as anyone asks: no capacity is over 65,536, so a need may stop rising once it is past that.
-use Rattle.std.specs.Prelude.{ℕ, ◌+◌, ◌≤◌, List, [], ◌∷◌, map, length, set, Ok, Err, Result}
+use Rattle.std.specs.Prelude.{ℕ, ◌+◌, ◌≤◌, List, [], ◌∷◌, map, length, set, Result}
 use Rattle.blob.specs.declared.Refusal.{Refusal}
 use Rattle.blob.specs.Places.{Each}
-use Rattle.blob.specs.Reading.{Outcome, answer, as_result}
+use Rattle.blob.specs.Reading.{Outcome, as_result}
 use Rattle.blob.specs.Laid.{flat}
-use Rattle.format.specs.Area.{place, none, of}
+use Rattle.format.specs.Area.{place, of}
 use Rattle.format.specs.Item.{Item}
 use Rattle.format.specs.Template.{Template}
 use Rattle.format.specs.Map.{Mapped}
