@@ -2,11 +2,10 @@
 use Prim.Native.Nat.{ℕ, zero, suc, ◌+◌, ◌*◌, ◌-◌, ◌≤◌, ◌<◌}
 use Rattle.std.specs.Prelude.{Option, Some, None, ◌≡◌, refl, Bool, true, false, ◌&&◌, List, [], ◌∷◌, get_or, take, drop, eqb}
 use Rattle.std.proofs.Math.Path.{ap}
-use Rattle.std.proofs.Common.{ap₂, sym, ◌∙◌, mul-add, add-one, length-take, length-drop}
+use Rattle.std.proofs.Common.{ap₂, sym, ◌∙◌, mul-add, add-one, length-take, length-drop, drop_of_length-le, eq-eqb, ne_eqb}
 use native.Mathlib.Omega.{arith}
 use Rattle.std.proofs.Math.ListN.{length}
 use Rattle.std.proofs.Math.Seq.{drop-cons}
-use Rattle.std.specs.Cmp.Lexicographic.{pointwise}
 use Rattle.blob.specs.Reading.{choose}
 use Rattle.format.specs.Lists.{Entry}
 use Rattle.format.specs.Lookup.{entries_from, word_of, alike, every, select, position, positions}
@@ -14,13 +13,29 @@ use Rattle.lists.specs.declared.Run.{Run}
 use Rattle.lists.specs.Entries.{entries-length, drop_entries, more, some_of, rest, rest_from, rest_more, rest_none}
 use Rattle.lists.specs.Found.{entries, behind, has, found}
 
--- two runs of words are alike where they are equal word by word
-pub alike_pointwise : (xs ys : List ℕ) → pointwise eqb xs ys ≡ alike xs ys
-unfolding alike
-alike_pointwise [] [] = refl
-alike_pointwise [] (y ∷ ys) = refl
-alike_pointwise (x ∷ xs) [] = refl
-alike_pointwise (x ∷ xs) (y ∷ ys) = ap (λ t. eqb x y && t) (alike_pointwise xs ys)
+-- Of two runs of words, those that are left decide: where the next two are equal, where they are not, and where none is left.
+module _ (words key : List ℕ) (at : ℕ) where
+  abbrev pub alike_from : ℕ → Bool
+  alike_from i = alike (take (length key - i) (drop (at + i) words)) (drop i key)
+
+  alike-more : (i : ℕ) → at + length key ≤ length words → i < length key → alike_from i ≡ (eqb (get_or words (at + i) 0) (get_or key i 0) && alike_from (i + 1))
+  unfolding alike
+  alike-more i h g =
+      let n : length key - i ≡ suc (length key - (i + 1)) = omega arith in
+      let a : at + (i + 1) ≡ suc (at + i) = omega arith in
+      let b : i + 1 ≡ suc i = omega arith in
+      let k : at + i < length words = omega arith in
+      rw (n, drop-cons words (at + i) 0 k, drop-cons key i 0 g, a, b)
+
+  pub alike-equal : (i : ℕ) → at + length key ≤ length words → i < length key → get_or words (at + i) 0 ≡ get_or key i 0 → alike_from i ≡ alike_from (i + 1)
+  alike-equal i h g e = alike-more i h g ∙ ap (λ t. t && alike_from (i + 1)) (eq-eqb _ _ e)
+
+  pub alike-other : (i : ℕ) → at + length key ≤ length words → i < length key → (get_or words (at + i) 0 ≡ get_or key i 0 → ⊥) → alike_from i ≡ false
+  alike-other i h g e = alike-more i h g ∙ ap (λ t. t && alike_from (i + 1)) (ne_eqb _ _ e)
+
+  pub alike-none : (i : ℕ) → length key ≤ i → alike_from i ≡ true
+  unfolding alike
+  alike-none i h = let n : length key - i ≡ 0 = omega arith in rw (n, drop_of_length-le key h)
 
 -- Of entries that are searched, the next one has the words or has not, or none is left.
 module _ (words key : List ℕ) (width from : ℕ) (k : from + length key ≤ width) (n at i : ℕ) (h : i < n) where

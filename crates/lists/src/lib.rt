@@ -56,7 +56,13 @@ pub fn same(words: &[u32], at: usize, key: &[u32]) -> bool
     requires { at + length key.now ≤ length words.now }
     ensures { result ≡ right.alike (take (length key.now) (drop at words.now)) key.now }
 {
-    &words[at..at + key.len()] == key
+    // As slices, by `==`, they were compared at half the speed: a call for a few words.
+    for (i, word) in key.iter().enumerate() {
+        if words[at + i] != *word {
+            return false;
+        }
+    }
+    true
 }
 
 // Where an entry stands, by its number, in a list that starts at a place.
@@ -274,7 +280,8 @@ impl<'a> Fitted<'a> {
     }
 }
 
-// What is stored for an event that belongs to no provider: no provider's number, since a list has no more entries.
+// What is stored for an event that belongs to no provider: no provider's number, since a list has no more entries. (An Option would
+// take twice the memory for each event.)
 pub const NOBODY: u32 = MOST;
 
 // Gives the events of a range to a provider; false, at the first that belongs to one already.

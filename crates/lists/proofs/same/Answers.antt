@@ -1,12 +1,19 @@
--- Word by word.
-use Prim.Native.Nat.{◌+◌, ◌-◌}
-use mathlib.Core.Path.{◌≡◌, ◌∙◌}
-use lib.ListN.{length}
-use Rattle.lists.specs.Search.{alike_pointwise}
-use native.Mathlib.Omega.{arith}
+-- The invariant: what is left decides.
+use mathlib.Core.Path.{sym, ◌∙◌}
+use native.Mathlib.Numerals.{unary_clauses}
+use Rattle.lists.specs.Search.{alike-equal, alike-other, alike-none}
 use Rattle.lists.proofs.same.Goals as goal
 
+pub loop-i-init : goal.loop-i-init
+loop-i-init c = simp unary_clauses
+
+pub returns-then-words-at : goal.returns-then-words-at
+returns-then-words-at c =
+    sym (c.loop-i.invariant ∙ alike-other c.args.words.now c.args.key.now c.args.at _ c.requires c.loop-i-test.true c.if-words-at.true)
+
+pub loop-i-preserved : goal.loop-i-preserved
+loop-i-preserved c =
+    c.loop-i.invariant ∙ alike-equal c.args.words.now c.args.key.now c.args.at _ c.requires c.loop-i-test.true c.if-words-at.false
+
 pub returns : goal.returns
-returns c =
-    let n : (c.args.at + length c.args.key.now) - c.args.at ≡ length c.args.key.now = omega arith in
-    rw n at c.eq.ensures ∙ alike_pointwise _ c.args.key.now
+returns c = sym (c.loop-i.invariant ∙ alike-none c.args.words.now c.args.key.now c.args.at _ c.loop-i-test.false)
