@@ -8,8 +8,8 @@ use Rattle.format.specs.Provider.{descriptor_at}
 use Rattle.element.specs.Elements.{next-described}
 use Rattle.fillers.proofs.fill_descriptors.Goals as goal
 
-pub descriptor_of-d-requires : goal.descriptor_of-d-requires
-descriptor_of-d-requires c = record { at_in_bounds = omega arith; b_value = next-described _ _ _ (omega arith) c.loop-i.invariant.0 }
+pub descriptor_of-d-requires-clause-b_value : goal.descriptor_of-d-requires-clause-b_value
+descriptor_of-d-requires-clause-b_value c = next-described _ _ _ (omega arith) c.loop-i.invariant.0
 
 pub loop-i-preserved : goal.loop-i-preserved
 loop-i-preserved c =
@@ -19,5 +19,5 @@ loop-i-preserved c =
       inv.1 ∙ rest-next descriptor_at (step 8) descriptor_words _ _ _ _ _ _ _ _ _ _ c.put.ensures (omega arith) found inv.0 (omega arith) (omega arith),
     )
 
-pub returns : goal.returns
-returns c = record { value = omega arith; area_after = sym (c.loop-i.invariant.1 ∙ rest-none descriptor_at (step 8) descriptor_words _ _ _ _ _ (omega arith)) }
+pub returns-clause-area_after : goal.returns-clause-area_after
+returns-clause-area_after c = sym (c.loop-i.invariant.1 ∙ rest-none descriptor_at (step 8) descriptor_words _ _ _ _ _ (omega arith))

@@ -13,8 +13,8 @@ use Rattle.element.specs.Elements.{from-none, from-described, next-described, fr
 use Rattle.fillers.specs.Unknown.{unread, unknown-room, unknown-next}
 use Rattle.fillers.proofs.fill_unknown.Goals as goal
 
-pub descriptor_of-d-requires : goal.descriptor_of-d-requires
-descriptor_of-d-requires c = record { at_in_bounds = omega arith; b_value = next-described _ _ _ (omega arith) (from-described _ _ _ c.loop-i.invariant.0) }
+pub descriptor_of-d-requires-clause-b_value : goal.descriptor_of-d-requires-clause-b_value
+descriptor_of-d-requires-clause-b_value c = next-described _ _ _ (omega arith) (from-described _ _ _ c.loop-i.invariant.0)
 
 pub put_unknown-to-requires : goal.put_unknown-to-requires
 put_unknown-to-requires c = λ k.

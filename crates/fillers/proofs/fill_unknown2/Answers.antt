@@ -20,5 +20,5 @@ loop-i-preserved c =
     let laid-word = c.put.ensures ∙ ap (λ x. laid c.loop-i.area (1 * c.loop-i.i) (x ∷ [])) c.word.ensures in
     c.loop-i.invariant ∙ rest-next (number 4) (step 4) unknown2_words _ _ _ _ _ _ _ _ _ _ laid-word (omega arith) (finds-number 4 _ _) (fine _ _ _) (omega arith) (omega arith)
 
-pub returns : goal.returns
-returns c = record { value = omega arith; area_after = sym (c.loop-i.invariant ∙ rest-none (number 4) (step 4) unknown2_words _ _ _ _ _ (omega arith)) }
+pub returns-clause-area_after : goal.returns-clause-area_after
+returns-clause-area_after c = sym (c.loop-i.invariant ∙ rest-none (number 4) (step 4) unknown2_words _ _ _ _ _ (omega arith))

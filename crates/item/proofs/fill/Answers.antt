@@ -2,7 +2,6 @@
 use mathlib.Core.Path.{ap, sym, ◌∙◌}
 use native.Mathlib.Omega.{arith}
 use native.Mathlib.Numerals.{unary_clauses}
-use borrow.Author.Rules.{rules}
 use Rattle.blob.specs.Reading.{verdict, values}
 use Rattle.blob.specs.Laid.{laid, flat}
 use Rattle.blob.proofs.Laws.{fine-value, many-first, many-next, rest-next, rest-none}
@@ -21,8 +20,8 @@ loop-i-init c =
       simp (e, unary_clauses) (ap (λ x. laid c.args.area.now c.args.start (flat (item_words c.args.number) (values x))) r),
     )
 
-pub put-requires : goal.put-requires
-put-requires c = record { at_bound = search rules; b_value = many-first _ (step 20) _ _ _ (omega arith) c.loop-i.invariant.1; width_in_bounds = search rules }
+pub put-requires-clause-b_value : goal.put-requires-clause-b_value
+put-requires-clause-b_value c = many-first _ (step 20) _ _ _ (omega arith) c.loop-i.invariant.1
 
 pub loop-i-preserved : goal.loop-i-preserved
 loop-i-preserved c =
