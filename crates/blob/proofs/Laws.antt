@@ -292,12 +292,6 @@ module _ {S A : Type 0} (p : S → Reading A) (next : A → S → S) where
         let left : n - i - 1 ≡ n - (i + 1) = omega arith in
         rest_more s area area' (n - i) at to a ea (omega arith) e v ∙ rw (left, ha, ht)
 
-  pub many-next : (n i : ℕ) (at at' : S) (s : List ℕ) (a : A) → i < n → run (p at) s ≡ done a → next a at ≡ at'
-      → verdict (run (many p next (n - i) at) s) ≡ verdict (run (many p next (n - (i + 1)) at') s)
-  many-next n i at at' s a h e ha =
-      let left : n - i - 1 ≡ n - (i + 1) = omega arith in
-      many_more (n - i) at s a (omega arith) e ∙ rw (left, ha)
-
   -- one value more than the rest has
   one_more : (a : A) (o : Outcome (List A)) (n : ℕ) → verdict o ≡ Ok tt → length (values o) ≡ n → length (values (then o (λ vs. done (a ∷ vs)))) ≡ suc n
   unfolding then

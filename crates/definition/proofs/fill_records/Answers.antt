@@ -2,7 +2,7 @@
 use mathlib.Core.Path.{sym, ◌∙◌}
 use native.Mathlib.Omega.{arith}
 use borrow.Author.Rules.{rules}
-use Rattle.blob.proofs.Laws.{many-first, many-next, rest-next, rest-none}
+use Rattle.blob.proofs.Laws.{many-first, many_next, rest-next, rest-none}
 use Rattle.format.specs.Definition.{definition_at, step}
 use Rattle.format.specs.Lists.{definition_words}
 use Rattle.definition.specs.Records.{below_whole}
@@ -18,7 +18,7 @@ pub loop-i-preserved : goal.loop-i-preserved
 loop-i-preserved c =
     let inv = c.loop-i.invariant in
     let found = c.definition_of-d.ensures in (
-      sym (many-next (definition_at _) (step _) _ _ _ _ _ _ (omega arith) found (omega arith)) ∙ inv.0,
+      sym (many_next (definition_at _) (step _) _ _ _ _ _ _ (omega arith) found (omega arith)) ∙ inv.0,
       inv.1 ∙ rest-next (definition_at _) (step _) definition_words _ _ _ _ _ _ _ _ _ _ c.put_definition.ensures (omega arith) found inv.0 (omega arith) (omega arith),
     )
 

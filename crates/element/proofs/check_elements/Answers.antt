@@ -3,7 +3,7 @@
 use Prim.Native.Nat.{◌+◌, ◌-◌, ◌*◌}
 use mathlib.Core.Path.{◌≡◌, sym, ◌∙◌}
 use native.Mathlib.Omega.{arith}
-use Rattle.blob.proofs.Laws.{handed_on, many_next, refused-value}
+use Rattle.blob.proofs.Laws.{handed_on, many_next, one_on, refused-value}
 use Rattle.format.specs.Definition.{step}
 use Rattle.format.specs.Provider.{descriptor_at}
 use Rattle.element.specs.Elements.{signature-fits, next-described}
@@ -38,15 +38,14 @@ pub loop-i-preserved : goal.loop-i-preserved
 loop-i-preserved c =
     let found = c.descriptor_of-d.ensures in
     let q = c.kind_of-kind.ensures.0 in
-    let left : c.args.n - c.loop-i.i - 1 ≡ c.args.n - (c.loop-i.i + 1) = omega arith in
-    let at : c.args.start + 8 * c.loop-i.i + 8 ≡ c.args.start + 8 * (c.loop-i.i + 1) = omega arith in (
+    let e = one_on c.args.n c.loop-i.i c.args.start 8 in (
       elim c.if-kind-eq0.branch [ then-kind-eq0+in_ok-check_unknown w ↦ omega arith | else-kind-eq0+in_ok-entries w ↦ omega arith ],
-      sym (many_next descriptor_at (step 8) _ _ _ _ _ _ (omega arith) found at) ∙ c.loop-i.invariant.1,
+      sym (many_next descriptor_at (step 8) _ _ _ _ _ _ (omega arith) found e.1) ∙ c.loop-i.invariant.1,
       c.loop-i.invariant.2
           ∙ elim c.if-kind-eq0.branch [
             | then-kind-eq0+in_ok-check_unknown w ↦
-                rw (w.unknown-is, w.entries-is, w.places-is, ← left, ← at) (read_unknown _ _ _ (omega arith) _ found _ q _ _ _ w.if-kind-eq0.true (sym w.in_ok-check_unknown.ensures))
+                rw (w.unknown-is, w.entries-is, w.places-is, ← e.0, ← e.1) (read_unknown _ _ _ (omega arith) _ found _ q _ _ _ w.if-kind-eq0.true (sym w.in_ok-check_unknown.ensures))
             | else-kind-eq0+in_ok-entries w ↦
-                rw (w.unknown-is, w.entries-is, w.places-is, ← left, ← at) (read_table _ _ _ (omega arith) _ found _ q _ _ _ (omega arith) _ w.in_ok-entries.ensures)
+                rw (w.unknown-is, w.entries-is, w.places-is, ← e.0, ← e.1) (read_table _ _ _ (omega arith) _ found _ q _ _ _ (omega arith) _ w.in_ok-entries.ensures)
           ],
     )

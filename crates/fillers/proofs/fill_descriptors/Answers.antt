@@ -1,7 +1,7 @@
 -- The invariant: what is left decides. The rest, laid from here, makes the area what it shall be, and the rest is fine.
 use mathlib.Core.Path.{sym, ◌∙◌}
 use native.Mathlib.Omega.{arith}
-use Rattle.blob.proofs.Laws.{many-next, rest-next, rest-none}
+use Rattle.blob.proofs.Laws.{many_next, rest-next, rest-none}
 use Rattle.format.specs.Definition.{step}
 use Rattle.format.specs.Lists.{descriptor_words}
 use Rattle.format.specs.Provider.{descriptor_at}
@@ -15,7 +15,7 @@ pub loop-i-preserved : goal.loop-i-preserved
 loop-i-preserved c =
     let inv = c.loop-i.invariant in
     let found = c.descriptor_of-d.ensures in (
-      sym (many-next descriptor_at (step 8) _ _ _ _ _ _ (omega arith) found (omega arith)) ∙ inv.0,
+      sym (many_next descriptor_at (step 8) _ _ _ _ _ _ (omega arith) found (omega arith)) ∙ inv.0,
       inv.1 ∙ rest-next descriptor_at (step 8) descriptor_words _ _ _ _ _ _ _ _ _ _ c.put.ensures (omega arith) found inv.0 (omega arith) (omega arith),
     )
 

@@ -4,7 +4,7 @@ use native.Mathlib.Omega.{arith}
 use native.Mathlib.Numerals.{unary_clauses}
 use Rattle.blob.specs.Reading.{verdict, values}
 use Rattle.blob.specs.Laid.{laid, flat}
-use Rattle.blob.proofs.Laws.{fine-value, many-first, many-next, rest-next, rest-none}
+use Rattle.blob.proofs.Laws.{fine-value, many-first, many_next, rest-next, rest-none}
 use Rattle.format.specs.Definition.{step}
 use Rattle.format.specs.Lists.{item_words}
 use Rattle.item.specs.Items.{items-row, items-fit}
@@ -28,7 +28,7 @@ loop-i-preserved c =
     let inv = c.loop-i.invariant in
     let f = fine-value _ (many-first _ (step 20) _ _ _ (omega arith) inv.1) in (
       inv.0,
-      sym (many-next _ (step 20) _ _ _ _ _ _ (omega arith) f.1 (omega arith)) ∙ inv.1,
+      sym (many_next _ (step 20) _ _ _ _ _ _ (omega arith) f.1 (omega arith)) ∙ inv.1,
       inv.2 ∙ rest-next _ (step 20) (item_words _) _ _ _ _ _ _ _ _ _ _ (c.put.ensures f.0 f.1) (omega arith) f.1 inv.1 (omega arith) (omega arith),
     )
 

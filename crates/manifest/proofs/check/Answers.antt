@@ -2,7 +2,7 @@
 use Prim.Native.Nat.{◌+◌, ◌-◌, ◌*◌}
 use mathlib.Core.Path.{◌≡◌, ap, sym, ◌∙◌, subst}
 use native.Mathlib.Omega.{arith}
-use Rattle.blob.proofs.Laws.{handed_on, result_found, result_refused}
+use Rattle.blob.proofs.Laws.{handed_on, one_on, result_found, result_refused}
 use Rattle.format.specs.Steps.Needs.{modest, needs_all, providers_read}
 use Rattle.format.proofs.Theorems.Needed.{plus-modest}
 use Rattle.areas.specs.Walked.{none_left}
@@ -17,9 +17,8 @@ returns-in_err-needs c =
 pub loop-i-preserved : goal.loop-i-preserved
 loop-i-preserved c =
     let x = result_found _ _ _ c.in_ok-needs.ensures in
-    let left : c.args.n - c.loop-i.i - 1 ≡ c.args.n - (c.loop-i.i + 1) = omega arith in
-    let at : 16 + 20 * c.loop-i.i + 20 ≡ 16 + 20 * (c.loop-i.i + 1) = omega arith in
-    (subst modest (sym x.2) (plus-modest _ _), rw (← left, ← at) (c.loop-i.invariant.1 ∙ needs_more _ _ _ (omega arith) x.0 x.1 _ _ x.2))
+    let e = one_on c.args.n c.loop-i.i 16 20 in
+    (subst modest (sym x.2) (plus-modest _ _), rw (← e.0, ← e.1) (c.loop-i.invariant.1 ∙ needs_more _ _ _ (omega arith) x.0 x.1 _ _ x.2))
 
 pub returns : goal.returns
 unfolding needs_all

@@ -4,7 +4,7 @@ use mathlib.Core.Path.{◌≡◌, ap, sym, ◌∙◌}
 use native.Mathlib.Omega.{arith}
 use native.Mathlib.Nat.{add-zero}
 use borrow.Author.Rules.{rules}
-use Rattle.blob.proofs.Laws.{handed_on, many-refused, many-empty}
+use Rattle.blob.proofs.Laws.{handed_on, many-refused, many-empty, one_on}
 use Rattle.format.specs.Definition.{step}
 use Rattle.format.proofs.Theorems.Counting.{counted-all, counted_none}
 use Rattle.map.specs.Decides.{is_refused}
@@ -25,10 +25,9 @@ returns-in_err-m c =
 
 pub loop-i-preserved : goal.loop-i-preserved
 loop-i-preserved c =
-    let left : c.args.n - c.loop-i.i - 1 ≡ c.args.n - (c.loop-i.i + 1) = omega arith in
-    let place : c.args.start + 4 * c.loop-i.i + 4 ≡ c.args.start + 4 * (c.loop-i.i + 1) = omega arith in (
+    let e = one_on c.args.n c.loop-i.i c.args.start 4 in (
       omega arith,
-      rw (← left, ← place) (c.loop-i.invariant.1 ∙ next-counted _ _ _ _ _ _ (omega arith) (omega arith) _ c.in_ok-m.ensures _ _ c.sum-entries.ensures),
+      rw (← e.0, ← e.1) (c.loop-i.invariant.1 ∙ next-counted _ _ _ _ _ _ (omega arith) (omega arith) _ c.in_ok-m.ensures _ _ c.sum-entries.ensures),
     )
 
 pub returns : goal.returns
