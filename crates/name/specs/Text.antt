@@ -1,14 +1,14 @@
 -- What one unit makes of the rest of a text, a law for each kind of unit.
 use Prim.Native.Nat.{ℕ, zero, suc, ◌+◌, ◌-◌, ◌%◌, ◌≤◌, ◌<◌}
-use Rattle.std.specs.Prelude.{◌≡◌, List, Bool, ◌&&◌, leb, eqb, Ok}
+use Rattle.std.specs.Prelude.{◌≡◌, List, Bool, ◌&&◌, leb, eqb, Ok, Option, Some, None, IsSome}
 use Rattle.std.proofs.Math.Path.{refl, ap}
-use Rattle.std.proofs.Common.{sym, ◌∙◌}
+use Rattle.std.proofs.Common.{rules, ◌∙◌}
 use Rattle.std.proofs.Math.Bool.{true, false}
 use native.Mathlib.Omega.{arith}
 use Rattle.std.proofs.Math.Dec.{ltb, leb-suc-suc}
 use borrow.Author.Tests.{le-leb, lt-leb, lt-ltb, le-ltb, eq-eqb, ne_eqb, ltb-true, ltb-false}
 use Rattle.blob.specs.Le.{le}
-use Rattle.blob.proofs.Laws.{run-number, fine-value, choose-done}
+use Rattle.blob.proofs.Laws.{not_fine, run-number}
 use Rattle.blob.specs.Reading.{Outcome, stop, done, refused, choose, demand, run, verdict}
 use Rattle.format.specs.Refuse.{not_utf16}
 use Rattle.format.specs.Name.{high, low, text}
@@ -27,12 +27,14 @@ below (suc u) = u
 abbrev pub lows : List ℕ → ℕ → ℕ
 lows s at = ((below (le 2 s at) + below (le 2 s (at + 2))) + below (le 2 s (at + 4))) + below (le 2 s (at + 6))
 
--- what a text is by how many of its n units stand before its zero unit; more than n where it is none
-abbrev pub texted : (f o n r : ℕ) → Outcome Name
-texted f o n r = choose (leb r n) (done (record { start = o + 4; units = r; ended = ltb r n })) (refused ((not_utf16 f o).told 0))
+-- what a text is by how many of its n units stand before its zero unit; where there is no such number, it is none
+abbrev pub texted : (f o n : ℕ) → Option ℕ → Outcome Name
+texted f o n (Some r) = done (record { start = o + 4; units = r; ended = ltb r n })
+texted f o n None = refused ((not_utf16 f o).told 0)
 
-pub texted-fine : (f o n r : ℕ) → verdict (texted f o n r) ≡ Ok tt → texted f o n r ≡ done (record { start = o + 4; units = r; ended = ltb r n })
-texted-fine f o n r v = let m = fine-value (texted f o n r) v in m.1 ∙ sym (choose-done (leb r n) _ _ m.0 m.1).1
+pub texted-fine : (f o n : ℕ) (r : Option ℕ) → verdict (texted f o n r) ≡ Ok tt → IsSome r
+texted-fine f o n (Some r) v = search rules
+texted-fine f o n None v = absurd (not_fine _ v)
 
 -- a unit within two bounds, below the first, and past the second
 module _ (a b u : ℕ) where
@@ -54,13 +56,13 @@ nonzero : {u : ℕ} → 0 < u → eqb u 0 ≡ false
 nonzero {u} h = ne_eqb u 0 (λ q. omega arith)
 
 module _ (f o : ℕ) (s : List ℕ) (left at k : ℕ) where
-  pub text-none : (n : ℕ) → n ≡ k → left ≤ 0 → run (text f o left at k false) s ≡ texted f o n n
+  pub text-none : (n : ℕ) → n ≡ k → left ≤ 0 → run (text f o left at k false) s ≡ texted f o n (Some n)
   unfolding text run demand
-  text-none n g h = let e : left ≡ 0 = omega arith in rw (e, g, le-leb k k (omega arith), le-ltb k k (omega arith))
+  text-none n g h = let e : left ≡ 0 = omega arith in rw (e, g, le-ltb k k (omega arith))
 
-  pub text-zero : (n : ℕ) → k < n → 0 < left → le 2 s at ≡ 0 → run (text f o left at k false) s ≡ texted f o n k
+  pub text-zero : (n : ℕ) → k < n → 0 < left → le 2 s at ≡ 0 → run (text f o left at k false) s ≡ texted f o n (Some k)
   unfolding text run
-  text-zero n g h z = ap (λ m. run (text f o m at k false) s) (more h) ∙ rw (run-number, eq-eqb _ _ z, le-leb k n (omega arith), lt-ltb k n g)
+  text-zero n g h z = ap (λ m. run (text f o m at k false) s) (more h) ∙ rw (run-number, eq-eqb _ _ z, lt-ltb k n g)
 
   -- a unit that is not 0 and no surrogate
   passed : (left' k' : ℕ) → left ≡ suc left' → k' ≡ k + 1 → 0 < le 2 s at → low (le 2 s at) ≡ false → high (le 2 s at) ≡ false
@@ -114,9 +116,9 @@ module _ (f o : ℕ) (s : List ℕ) where
     unfolding after
     text-pair k' e p = text-surrogate left at k h d g ∙ rw (p, e)
 
-    pub text-unpaired : (n r : ℕ) → n < r → pairs s at left ≡ false → run (text f o left at k false) s ≡ texted f o n r
+    pub text-unpaired : (n : ℕ) → pairs s at left ≡ false → run (text f o left at k false) s ≡ texted f o n None
     unfolding after
-    text-unpaired n r w p = text-surrogate left at k h d g ∙ rw (p, lt-leb _ _ w)
+    text-unpaired n p = text-surrogate left at k h d g ∙ rw p
 
 -- a pair is two units
 pub pairs-two : (s : List ℕ) (at left : ℕ) → pairs s at left ≡ true → 1 < left

@@ -52,13 +52,10 @@ fn four(b: &[u8], at: usize, left: u32) -> bool
     first + second + third + fourth < 0xD7FF
 }
 
-// What `units` tells of a text that is no UTF-16: more than the units of any.
-const NOT_UTF16: u32 = 4294967295;
-
-// How many of the n units behind the size word of a name stand before its zero unit; all where it has none, NOT_UTF16 where they are no
-// text. First go low units, four at a time, then whatever is left, one at a time: an ordinary unit takes two comparisons; a high surrogate
-// takes the unit behind it along, so that none waits from one turn to the next.
-fn units(b: &[u8], field: u8, offset: u32, n: u32) -> u32
+// How many of the n units behind the size word of a name stand before its zero unit, all where it has none; none where they are no UTF-16.
+// First go low units, four at a time, then whatever is left, one at a time: an ordinary unit takes two comparisons; a high surrogate takes
+// the unit behind it along, so that none waits from one turn to the next. So neither loop counts: a turn is one, two or four units.
+fn units(b: &[u8], field: u8, offset: u32, n: u32) -> Option<u32>
     requires { (offset + 4 + 2 * n ≤ length b.now) × (length b.now ≤ 16777216) }
     ensures { run (text field offset n (offset + 4) 0 false) b.now ≡ texted field offset n result }
 {
@@ -72,7 +69,7 @@ fn units(b: &[u8], field: u8, offset: u32, n: u32) -> u32
         let unit = blob::half(b, at);
         if unit < 0xD800 {
             if unit == 0 {
-                return n - left;
+                return Some(n - left);
             }
         } else if unit < 0xE000 {
             if paired(b, at, left, unit) {
@@ -80,12 +77,12 @@ fn units(b: &[u8], field: u8, offset: u32, n: u32) -> u32
                 left -= 2;
                 continue;
             }
-            return NOT_UTF16;
+            return None;
         }
         at += 2;
         left -= 1;
     }
-    n
+    Some(n)
 }
 
 // No name.
@@ -124,10 +121,10 @@ fn check_sized(b: &[u8], end: usize, field: u8, offset: u32) -> Result<(), Refus
         return Err(bounds::not_utf16(field, at));
     }
     let n = (size - 4) / 2;
-    if n < units(b, field, offset, n) {
-        return Err(bounds::not_utf16(field, at));
+    match units(b, field, offset, n) {
+        Some(_) => Ok(()),
+        None => Err(bounds::not_utf16(field, at)),
     }
-    Ok(())
 }
 
 // Whether the name at an offset is fine, in a region that ends at `end`. The callers test the blob's length first, so that a text's start
@@ -152,7 +149,7 @@ pub fn name_of(b: &[u8], end: usize, field: u8, offset: u32) -> Name
         return absent();
     }
     let n = (blob::word(b, offset as usize) - 4) / 2;
-    let found = units(b, field, offset, n);
+    let found = units(b, field, offset, n).unwrap();
     Name {
         start: offset + 4,
         units: found,

@@ -1,7 +1,6 @@
 -- Each return cites the law of the test that led there.
 use mathlib.Core.Path.{ap, sym, ◌∙◌}
 use native.Mathlib.Omega.{arith}
-use borrow.Author.Tests.{le-leb, lt-leb}
 use Rattle.blob.specs.Reading.{verdict}
 use Rattle.name.specs.Sized.{refuses, sized_past, sized-cut, sized-small, sized-short, sized-odd, sized-text}
 use Rattle.name.proofs.check_sized.Goals as goal
@@ -25,11 +24,11 @@ returns-then-size-ne0 c =
     refuses _ _ _ _ _ _ c.not_utf16.ensures
     (sized-odd _ _ _ _ _ c.word-size.ensures (omega arith) (omega arith) (omega arith) c.if-size-ne0.true)
 
-pub returns-then-n-units : goal.returns-then-n-units
-returns-then-n-units c =
-    refuses _ _ _ _ _ _ c.not_utf16-then-n-units.ensures
-    (sized-text _ _ _ _ _ c.word-size.ensures (omega arith) (omega arith) (omega arith) c.if-size-ne0.false ∙ c.units.ensures ∙ rw (lt-leb _ _ c.if-n-units.true))
+pub returns-in-Some : goal.returns-in-Some
+returns-in-Some c =
+    sym (ap verdict (sized-text _ _ _ _ _ c.word-size.ensures (omega arith) (omega arith) (omega arith) c.if-size-ne0.false ∙ c.in-Some.ensures))
 
-pub returns : goal.returns
-returns c =
-    sym (ap verdict (sized-text _ _ _ _ _ c.word-size.ensures (omega arith) (omega arith) (omega arith) c.if-size-ne0.false ∙ c.units.ensures) ∙ rw (le-leb _ _ c.if-n-units.false))
+pub returns-in-None : goal.returns-in-None
+returns-in-None c =
+    refuses _ _ _ _ _ _ c.not_utf16-in-None.ensures
+    (sized-text _ _ _ _ _ c.word-size.ensures (omega arith) (omega arith) (omega arith) c.if-size-ne0.false ∙ c.in-None.ensures)

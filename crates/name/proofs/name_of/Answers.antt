@@ -19,10 +19,16 @@ word-requires c =
 pub overflow_sub-n : goal.overflow_sub-n
 overflow_sub-n c = (sized-fine _ _ _ _ _ c.word.ensures c.if-offset-eq0.false c.requires.b_value).0
 
-pub units-found-requires : goal.units-found-requires
-units-found-requires c =
+pub units-requires : goal.units-requires
+units-requires c =
     let z = sized-fine _ _ _ _ _ c.word.ensures c.if-offset-eq0.false c.requires.b_value in
     (omega arith, omega arith)
+
+pub unwrap-found-requires : goal.unwrap-found-requires
+unwrap-found-requires c =
+    let v = c.requires.b_value in
+    let found = (sized-fine _ _ _ _ _ c.word.ensures c.if-offset-eq0.false v).2 ∙ c.units.ensures in
+    texted-fine _ _ _ _ (sym (ap verdict found) ∙ v)
 
 pub overflow_add-result : goal.overflow_add-result
 overflow_add-result c =
@@ -31,6 +37,4 @@ overflow_add-result c =
 
 pub returns : goal.returns
 returns c =
-    let v = c.requires.b_value in
-    let found = (sized-fine _ _ _ _ _ c.word.ensures c.if-offset-eq0.false v).2 ∙ c.units-found.ensures in
-    found ∙ texted-fine _ _ _ _ (sym (ap verdict found) ∙ v)
+    (sized-fine _ _ _ _ _ c.word.ensures c.if-offset-eq0.false c.requires.b_value).2 ∙ c.units.ensures ∙ rw c.unwrap-found.ensures

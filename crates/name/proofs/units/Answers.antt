@@ -54,7 +54,7 @@ loop-left-preserved-then-paired c =
 pub returns-then-unit-lt57344 : goal.returns-then-unit-lt57344
 returns-then-unit-lt57344 c =
     c.loop-left.invariant.2
-    ∙ text-unpaired _ _ _ _ _ _ c.loop-left-test.true (omega arith) (omega arith) c.args.n 4294967295 (omega arith) (sym c.paired.ensures ∙ c.if-paired.false)
+    ∙ text-unpaired _ _ _ _ _ _ c.loop-left-test.true (omega arith) (omega arith) c.args.n (sym c.paired.ensures ∙ c.if-paired.false)
 
 pub returns : goal.returns
 returns c =
