@@ -76,7 +76,7 @@ module _ (words capacities counts owners : List ℕ) where
         counts-short words (of PROVIDERS counts) (areas rows (take (place PROVIDERS) capacities)),
         forms_short (length events ∷ []),
         formed-short events,
-        listed-short owners words 0 (of EVENTS counts) (areas rows (take (place EVENTS) capacities)),
+        listed-short owners words (of EVENTS counts) (areas rows (take (place EVENTS) capacities)),
         (inside words capacities counts f (place PROVIDERS)).1,
         (inside words capacities counts f (place EVENTS)).1,
       )
