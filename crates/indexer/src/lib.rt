@@ -31,6 +31,9 @@ const UNKNOWN2_COUNT: usize = 8;
 
 const EDITION: u64 = 1;
 
+// The template offset of an event that has none.
+const NO_TEMPLATE: u32 = 0;
+
 // A provider's number, and its templates.
 #[derive(Clone, Copy)]
 pub struct Known {
@@ -167,13 +170,7 @@ fn finds(words: &[u32], at: usize, templates: Run) -> bool
     ensures { result ≡ spec.finds_in (runs.entries (area.width area.TEMPLATES) templates words.now) (spec.event_at words.now at) }
 {
     let offset = words[at + EVENT_TEMPLATE];
-    if offset == 0 {
-        return false;
-    }
-    let Some(_) = lists::at_offset(words, templates, offset) else {
-        return false;
-    };
-    true
+    offset != NO_TEMPLATE && lists::at_offset(words, templates, offset).is_some()
 }
 
 // An event's owner, or nobody.
@@ -230,10 +227,7 @@ fn entry_of(words: &[u32], at: usize, provider: u32) -> [u64; ENTRY]
 fn listed(owner: u32) -> u32
     ensures { result ≡ spec.one_of owner }
 {
-    if owner == NOBODY {
-        return 0;
-    }
-    1
+    u32::from(owner != NOBODY)
 }
 
 // The bytes that they take, of the event at a place.
