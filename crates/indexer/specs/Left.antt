@@ -104,9 +104,9 @@ module _ (owner : ℕ) (e : Entry) where
   unfolding flat
   mine-none h = rw (eq-eqb _ _ h)
 
-  pub mine-one : (owner ≡ NOBODY → ⊥) → formed (mine owner e) ≡ flat form (entry_of (owner ∷ e))
+  pub mine-one : (owner ≡ NOBODY → ⊥) → (ns : List ℕ) → ns ≡ entry_of (owner ∷ e) → flat form ns ≡ formed (mine owner e)
   unfolding flat
-  mine-one h = rw (ne_eqb _ _ h) (ap (flat form) (append-nil (entry_of (owner ∷ e))))
+  mine-one h ns g = rw (ne_eqb _ _ h, g) (ap (flat form) (sym (append-nil (entry_of (owner ∷ e)))))
 
   pub mine-count : length (mine owner e) ≡ one_of owner
   mine-count = go (eqb owner NOBODY)
