@@ -48,13 +48,6 @@ pub struct Extent {
     pub bytes: usize,
 }
 
-// Two words as one number, the low one first.
-fn joined(low: u32, high: u32) -> u64
-    ensures { result ≡ low + 4294967296 * high }
-{
-    (low as u64) + 4294967296 * (high as u64)
-}
-
 // The bytes that some numbers take.
 fn size_all(numbers: &[u64]) -> usize
     requires { length numbers.now ≤ spec.ENTRY }
@@ -218,7 +211,7 @@ fn entry_of(words: &[u32], at: usize, provider: u32) -> [u64; ENTRY]
         words[at + 3] as u64,
         words[at + 4] as u64,
         words[at + 5] as u64,
-        joined(words[at + 6], words[at + 7]),
+        (words[at + 6] as u64) + 4294967296 * (words[at + 7] as u64),
         words[at + EVENT_TEMPLATE] as u64,
     ]
 }
@@ -302,8 +295,8 @@ fn size_index(fitted: &Fitted, owners: &[u32; 65536]) -> Extent
     let providers = counts::area_at(capacities, row::PROVIDERS);
     let events = counts::area_at(capacities, row::EVENTS);
     let found = size_entries(words, events, counts[row::EVENTS], owners);
-    let head = [EDITION, u64::from(counts[row::PROVIDERS])];
-    let entries = [u64::from(found.entries)];
+    let head = [EDITION, counts[row::PROVIDERS] as u64];
+    let entries = [found.entries as u64];
     let size = size_all(&head)
         + size_counts(words, providers, counts[row::PROVIDERS])
         + size_all(&entries)
@@ -327,8 +320,8 @@ fn put_index(fitted: &Fitted, owners: &[u32; 65536], found: u32, bytes: &mut [u8
     } = fitted.lists;
     let providers = counts::area_at(capacities, row::PROVIDERS);
     let events = counts::area_at(capacities, row::EVENTS);
-    let head = [EDITION, u64::from(counts[row::PROVIDERS])];
-    let entries = [u64::from(found)];
+    let head = [EDITION, counts[row::PROVIDERS] as u64];
+    let entries = [found as u64];
     let to = put_all(bytes, 0, &head);
     let behind = put_counts(bytes, to, words, providers, counts[row::PROVIDERS]);
     let last = put_all(bytes, behind, &entries);

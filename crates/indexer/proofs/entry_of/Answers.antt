@@ -4,4 +4,4 @@ use Rattle.indexer.specs.Event.{entry-words}
 use Rattle.indexer.proofs.entry_of.Goals as goal
 
 pub returns : goal.returns
-returns c = rw c.joined.ensures (sym (entry-words c.args.words.now c.args.at c.requires c.args.provider))
+returns c = sym (entry-words c.args.words.now c.args.at c.requires c.args.provider)
