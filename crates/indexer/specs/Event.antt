@@ -1,7 +1,7 @@
 -- The event at a place, word by word: whether its fields fit, its entry's numbers, and whether it finds a template.
-use Rattle.std.specs.Prelude.{Some, None, ℕ, zero, suc, ◌+◌, ◌*◌, ◌≤◌, ◌<◌, ◌≡◌, Bool, ◌||◌, length, get_or, take, drop, eqb}
+use Rattle.std.specs.Prelude.{is_some, ℕ, zero, suc, ◌+◌, ◌*◌, ◌≤◌, ◌<◌, ◌≡◌, Bool, ◌||◌, length, get_or, take, drop, eqb}
 use Rattle.std.proofs.Math.Path.{refl, ap}
-use Rattle.std.proofs.Common.{sym, ◌∙◌, add-zero, arith, length-take, length-drop, drop-cons, eq-eqb, ne_eqb}
+use Rattle.std.proofs.Common.{◌∙◌, add-zero, arith, length-take, length-drop, drop-cons, ne_eqb}
 use Rattle.std.proofs.Math.Bool.{true, false}
 use mathlib.Core.List.{List, [], ◌∷◌, ◌++◌}
 use Rattle.blob.specs.Reading.{choose}
@@ -12,7 +12,6 @@ use Rattle.format.specs.Join.{some}
 use Rattle.format.specs.Lookup.{word_of, position}
 use Rattle.lists.specs.Entries.{word_at}
 use Rattle.lists.specs.Found.{found}
-use Rattle.lists.specs.Search.{nothing-found}
 use Rattle.index.specs.Index.{fit, fields_fit}
 use Rattle.indexer.specs.Listed.{event_at, finds_in, entry_at}
 
@@ -56,29 +55,16 @@ module _ (words : List ℕ) (at : ℕ) (h : at + width EVENTS ≤ length words) 
       ap (λ (l : List ℕ). provider ∷ (take 6 l ++ ((word_of 6 event + 4294967296 * word_of 7 event) ∷ word_of EVENT_TEMPLATE event ∷ []))) first_words
       ∙ rw (event-word 6 (omega arith), event-word 7 (omega arith), event-word EVENT_TEMPLATE (omega arith))
 
-  -- whether it finds one of some templates: not with offset 0, else by its offset
-  pub finds-none : (ts : List Entry) → get_or words (at + EVENT_TEMPLATE) 0 ≡ 0 → finds_in ts event ≡ false
-  finds-none ts e = rw (event-word EVENT_TEMPLATE (omega arith), eq-eqb _ _ e)
-
+  -- with a template offset it finds one of some templates by that
   pub finds-some : (ts : List Entry) → (get_or words (at + EVENT_TEMPLATE) 0 ≡ 0 → ⊥) → finds_in ts event ≡ some (λ t. eqb (word_of TEMPLATE_OFFSET t) (get_or words (at + EVENT_TEMPLATE) 0)) ts
   finds-some ts e = rw (event-word EVENT_TEMPLATE (omega arith), ne_eqb _ _ e)
 
--- one is found, or none
-module _ (p : Entry → Bool) where
-  pub some-found : (k : ℕ) (es : List Entry) (n : ℕ) → found (position p k es) ≡ Some n → some p es ≡ true
-  unfolding some position
-  some-found k [] n e = absurd (nothing-found n e)
-  some-found k (x ∷ es) n e = go (p x) e (some-found (suc k) es n)
-    where
-      go : (t : Bool) → found (choose t (k ∷ []) (position p (suc k) es)) ≡ Some n → (found (position p (suc k) es) ≡ Some n → some p es ≡ true) → (t || some p es) ≡ true
-      go true e ih = refl
-      go false e ih = ih e
-
-  pub some-none : (k : ℕ) (es : List Entry) → found (position p k es) ≡ None → some p es ≡ false
-  unfolding some position
-  some-none k [] e = refl
-  some-none k (x ∷ es) e = go (p x) e (some-none (suc k) es)
-    where
-      go : (t : Bool) → found (choose t (k ∷ []) (position p (suc k) es)) ≡ None → (found (position p (suc k) es) ≡ None → some p es ≡ false) → (t || some p es) ≡ false
-      go true e ih = absurd (nothing-found k (sym e))
-      go false e ih = ih e
+-- one is found where a test picks one
+pub some-found : (p : Entry → Bool) (k : ℕ) (es : List Entry) → is_some (found (position p k es)) ≡ some p es
+unfolding some position
+some-found p k [] = refl
+some-found p k (x ∷ es) = go (p x) (some-found p (suc k) es)
+  where
+    go : (t : Bool) → is_some (found (position p (suc k) es)) ≡ some p es → is_some (found (choose t (k ∷ []) (position p (suc k) es))) ≡ (t || some p es)
+    go true ih = refl
+    go false ih = ih

@@ -1,5 +1,5 @@
 -- The events with a found template: those that are left to their owners.
-use Rattle.std.specs.Prelude.{ℕ, ◌+◌, ◌-◌, ◌≤◌, ◌<◌, ◌≡◌, Bool, not, ◌&&◌, length, take, eqb, ltb}
+use Rattle.std.specs.Prelude.{ℕ, ◌+◌, ◌*◌, ◌≤◌, ◌<◌, ◌≡◌, Bool, not, ◌&&◌, length, take, eqb, ltb}
 use Rattle.std.proofs.Math.Path.{refl, ap, ap₂, sym}
 use Rattle.std.proofs.Common.{◌∙◌, add-one, arith}
 use Rattle.std.proofs.Math.Bool.{true, false}
@@ -10,20 +10,32 @@ use borrow.Author.Tests.{eqb-true, ne_eqb, ltb-true}
 use Rattle.blob.specs.Reading.{choose}
 use Rattle.blob.proofs.Laws.{both}
 use Rattle.blob.specs.Laid.{flat}
-use Rattle.format.specs.Area.{PROVIDERS, TABLES, EVENTS, TEMPLATES, place, width, of}
+use Rattle.format.specs.Area.{PROVIDERS, TABLES, EVENTS, TEMPLATES, rows, place, width, of}
 use Rattle.format.specs.Table.{TTBL}
 use Rattle.format.specs.Lists.{Entry}
+use Rattle.format.specs.Answer.{areas}
 use Rattle.format.specs.Entry.{TABLE_PROVIDER, TABLE_KIND, EVENT_TEMPLATE}
 use Rattle.format.specs.Join.{those, some}
-use Rattle.format.specs.Lookup.{entries_from, entries_of, word_of, select, every, table_fits, tables_fit, range_of, owned_by}
+use Rattle.format.specs.Lookup.{entries_of, word_of, select, every, table_fits, tables_fit, range_of, owned_by}
 use Rattle.format.specs.Owner.{finds, owners_of, found_from}
 use Rattle.number.proofs.Scan.{untrue}
-use Rattle.lists.specs.Entries.{entries_next, entries_none}
+use Rattle.lists.specs.Entries.{rest, rest_all, rest_more, rest_none}
 use Rattle.lists.specs.Fit.{inside}
 use Rattle.lists.specs.Found.{entries, few, owned, Fit}
 use Rattle.lists.specs.Owners.{NOBODY}
 use Rattle.lists.specs.Tables.{owned-entries}
-use Rattle.indexer.specs.Listed.{event_at, finds_in, resolved_from, mine, listed_from}
+use Rattle.indexer.specs.Listed.{event_at, finds_in, resolved_from, resolved, mine, listed_from}
+
+-- with nobody's for those of so many events that have no found template, from one on, by its number
+module _ (words capacities counts : List ℕ) (n at : ℕ) where
+  abbrev pub resolved_left : List ℕ → ℕ → List ℕ
+  resolved_left owners i =
+      resolved_from (entries_of words capacities counts TABLES) (entries_of words capacities counts TEMPLATES) owners i (rest (width EVENTS) words n at i)
+
+module _ (words capacities counts owners : List ℕ) where
+  pub resolved-all : resolved_left words capacities counts (of EVENTS counts) (areas rows (take (place EVENTS) capacities)) owners 0 ≡ resolved words capacities counts owners
+  resolved-all =
+      ap (resolved_from (entries_of words capacities counts TABLES) (entries_of words capacities counts TEMPLATES) owners 0) (rest_all (width EVENTS) words (of EVENTS counts) (areas rows (take (place EVENTS) capacities)))
 
 -- over lists that fit together
 module _ (words capacities counts : List ℕ) (f : Fit words capacities counts) (t : tables_fit counts (entries_of words capacities counts TABLES) ≡ true) where
@@ -40,22 +52,21 @@ module _ (words capacities counts : List ℕ) (f : Fit words capacities counts) 
       let o = owned-entries words capacities counts TEMPLATES TTBL refl p tables t in
       (omega (arith, i.0, o.begins, o.within), omega (arith, i.1, o.within))
 
-  -- Of events that are left, the next one is left to its owner or to nobody; or none is left.
-  module _ (owners : List ℕ) (i left at : ℕ) where
-    pub resolved-more : (owners' : List ℕ) → 0 < left
-        → owners' ≡ set owners i (choose (finds_in (entries (width TEMPLATES) (owned words capacities counts (get_or owners i 0) TTBL) words) (event_at words at)) (get_or owners i 0) NOBODY)
-        → resolved_from tables templates owners i (entries_from (width EVENTS) left at words)
-        ≡ resolved_from tables templates owners' (i + 1) (entries_from (width EVENTS) (left - 1) (at + width EVENTS) words)
+  -- the next of them is left to its owner or to nobody, or none is left
+  module _ (n at : ℕ) where
+    pub resolved-more : (owners owners' : List ℕ) (i : ℕ) → i < n
+        → owners' ≡ set owners i (choose (finds_in (entries (width TEMPLATES) (owned words capacities counts (get_or owners i 0) TTBL) words) (event_at words (at + width EVENTS * i))) (get_or owners i 0) NOBODY)
+        → resolved_left words capacities counts n at owners i ≡ resolved_left words capacities counts n at owners' (i + 1)
     unfolding resolved_from
-    resolved-more owners' h e =
+    resolved-more owners owners' i h e =
         let p = get_or owners i 0 in
-        let g = ap (λ (ts : List Entry). finds_in ts (event_at words at)) (owned-entries words capacities counts TEMPLATES TTBL refl p tables t).equal in
-        ap (resolved_from tables templates owners i) (entries_next (width EVENTS) words left at h)
-        ∙ ap (λ (os : List ℕ). resolved_from tables templates os (i + 1) (entries_from (width EVENTS) (left - 1) (at + width EVENTS) words)) (ap (λ b. set owners i (choose b p NOBODY)) g ∙ sym e)
+        let g = ap (λ (ts : List Entry). finds_in ts (event_at words (at + width EVENTS * i))) (owned-entries words capacities counts TEMPLATES TTBL refl p tables t).equal in
+        ap (resolved_from tables templates owners i) (rest_more (width EVENTS) words n at i h)
+        ∙ ap (λ (os : List ℕ). resolved_left words capacities counts n at os (i + 1)) (ap (λ b. set owners i (choose b p NOBODY)) g ∙ sym e)
 
-    pub resolved-none : left ≤ 0 → resolved_from tables templates owners i (entries_from (width EVENTS) left at words) ≡ owners
+    pub resolved-none : (owners : List ℕ) (i : ℕ) → n ≤ i → resolved_left words capacities counts n at owners i ≡ owners
     unfolding resolved_from
-    resolved-none h = ap (resolved_from tables templates owners i) (entries_none (width EVENTS) words left at h)
+    resolved-none owners i h = ap (resolved_from tables templates owners i) (rest_none (width EVENTS) words n at i h)
 
 -- a provider that has a template has a number
 module _ (counts : List ℕ) (p : ℕ) (q : Entry → Bool) (es : List Entry) where

@@ -1,20 +1,19 @@
 -- The whole index: its head, the unknown2 counts, the number of entries, and the entries.
-use Rattle.std.specs.Prelude.{ℕ, ◌+◌, ◌*◌, ◌≤◌, ◌<◌, ◌≡◌, List, [], ◌∷◌, ◌++◌, length, take}
-use Rattle.std.proofs.Common.{ap, ◌∙◌, arith, le-leb}
+use Rattle.std.specs.Prelude.{ℕ, ◌+◌, ◌*◌, ◌≤◌, ◌≡◌, List, [], ◌∷◌, ◌++◌, length, get_or, take}
+use Rattle.std.proofs.Common.{ap, ◌∙◌, arith}
 use Rattle.std.proofs.lemmas.List.{length-map}
-use Rattle.std.proofs.lemmas.Bool.{lt-leb}
-use Rattle.blob.specs.Reading.{done, refused}
 use Rattle.blob.specs.Laid.{laid, flat, flat_append, flat_map}
 use Rattle.number.specs.Number.{form}
 use Rattle.format.specs.Area.{PROVIDERS, EVENTS, rows, place, of}
-use Rattle.format.specs.Answer.{too_small, areas}
+use Rattle.format.specs.Answer.{areas}
 use Rattle.format.specs.Lists.{Entry}
 use Rattle.format.specs.Lookup.{entries_of, word_of}
+use Rattle.counts.specs.Short.{widths}
 use Rattle.lists.specs.Entries.{entries-length}
 use Rattle.lists.specs.Fit.{inside}
 use Rattle.lists.specs.Found.{Fit}
-use Rattle.index.specs.Index.{EDITION, INDEX, UNKNOWN2_COUNT, numbers, written, with_room, entry_of}
-use Rattle.indexer.specs.Listed.{ENTRY, unknown2s, count_bytes, listed_at, formed, listed, index_by}
+use Rattle.index.specs.Index.{EDITION, UNKNOWN2_COUNT, numbers, written, entry_of}
+use Rattle.indexer.specs.Listed.{ENTRY, stand, unknown2s, count_bytes, listed_at, formed, listed, index_by}
 use Rattle.indexer.specs.Left.{Split, bytes-more, bytes-laid, forms_short, counts-short, formed-short, listed-short}
 
 -- bytes that are these four, one behind the other: so many, and stored so
@@ -66,9 +65,14 @@ module _ (words capacities counts owners : List ℕ) where
       (formed (listed_at owners words 0 (of EVENTS counts) e))
   parts n m p e en em ep ee = rw (en, em, ep, ee) all_bytes
 
-  -- they are not too many to be counted
-  pub whole-short : Fit words capacities counts → length (written (index_by words capacities counts owners)) ≤ 10 * (3 + 65536 + ENTRY * 65536)
-  whole-short f =
+  -- so many bytes, and not too many to be counted
+  module _ (f : Fit words capacities counts) where
+    pub whole-size : (n m p e : ℕ) → n ≡ of PROVIDERS counts → m ≡ length events → p ≡ areas rows (take (place PROVIDERS) capacities) → e ≡ areas rows (take (place EVENTS) capacities)
+        → (length (written (index_by words capacities counts owners))
+        ≡ length (flat form (EDITION ∷ n ∷ [])) + length (count_bytes words (of PROVIDERS counts) p) + length (flat form (m ∷ [])) + length (formed (listed_at owners words 0 (of EVENTS counts) e)))
+        × (length (written (index_by words capacities counts owners)) ≤ 10 * (3 + 65536 + ENTRY * 65536))
+    whole-size n m p e en em ep ee = (
+      parts-size (parts n m p e en em ep ee),
       omega (
         arith,
         parts-size all_bytes,
@@ -76,15 +80,12 @@ module _ (words capacities counts owners : List ℕ) where
         counts-short words (of PROVIDERS counts) (areas rows (take (place PROVIDERS) capacities)),
         forms_short (length events ∷ []),
         formed-short events,
-        listed-short owners words 0 (of EVENTS counts) (areas rows (take (place EVENTS) capacities)),
+        listed-short owners words (of EVENTS counts) (areas rows (take (place EVENTS) capacities)),
         (inside words capacities counts f (place PROVIDERS)).1,
         (inside words capacities counts f (place EVENTS)).1,
-      )
+      ),
+    )
 
--- with room for it, or not
-module _ (given lent : List ℕ) where
-  pub room_for : length given ≤ length lent → with_room lent given ≡ done given
-  room_for h = rw (le-leb _ _ h)
-
-  pub room-none : length lent < length given → with_room lent given ≡ refused (too_small INDEX (length lent))
-  room-none h = rw (lt-leb _ _ h)
+-- a whole list stands in the words, from where its area starts
+pub list-stands : (words capacities counts : List ℕ) → Fit words capacities counts → (row start : ℕ) → start ≡ areas rows (take row capacities) → stand (get_or widths row 0) (get_or counts row 0) start words
+list-stands words capacities counts f row start e = rw e (inside words capacities counts f row)

@@ -31,6 +31,9 @@ const UNKNOWN2_COUNT: usize = 8;
 
 const EDITION: u64 = 1;
 
+// The template offset of an event that has none.
+const NO_TEMPLATE: u32 = 0;
+
 // A provider's number, and its templates.
 #[derive(Clone, Copy)]
 pub struct Known {
@@ -45,29 +48,14 @@ pub struct Extent {
     pub bytes: usize,
 }
 
-// A word as a number, and two words as one, the low one first.
-fn wide(word: u32) -> u64
-    ensures { result ≡ word }
-{
-    word as u64
-}
-
-fn joined(low: u32, high: u32) -> u64
-    ensures { result ≡ low + 4294967296 * high }
-{
-    (low as u64) + 4294967296 * (high as u64)
-}
-
 // The bytes that some numbers take.
 fn size_all(numbers: &[u64]) -> usize
     requires { length numbers.now ≤ spec.ENTRY }
     ensures { result ≡ length (flat form numbers.now) }
 {
     let mut n = 0;
-    let mut i = 0;
-    while i < numbers.len() {
-        n += number::size(numbers[i]);
-        i += 1;
+    for number in numbers {
+        n += number::size(*number);
     }
     n
 }
@@ -79,10 +67,8 @@ fn put_all(bytes: &mut [u8], at: usize, numbers: &[u64]) -> usize
     ensures bytes_after { bytes.new ≡ laid bytes.old at (flat form numbers.now) }
 {
     let mut to = at;
-    let mut i = 0;
-    while i < numbers.len() {
-        to = number::put(bytes, to, numbers[i]);
-        i += 1;
+    for number in numbers {
+        to = number::put(bytes, to, *number);
     }
     to
 }
@@ -92,13 +78,10 @@ fn size_counts(words: &[u32], start: usize, count: u32) -> usize
     requires { spec.stand (area.width area.PROVIDERS) count start words.now }
     ensures { result ≡ length (spec.count_bytes words.now count start) }
 {
-    let mut at = start;
-    let mut left = count;
     let mut n = 0;
-    while 0 < left {
-        n += number::size(wide(words[at + UNKNOWN2_COUNT]));
-        at += width::PROVIDERS;
-        left -= 1;
+    for i in 0..count as usize {
+        let at = start + width::PROVIDERS * i;
+        n += number::size(words[at + UNKNOWN2_COUNT] as u64);
     }
     n
 }
@@ -110,37 +93,25 @@ fn put_counts(bytes: &mut [u8], from: usize, words: &[u32], start: usize, count:
     ensures value { result ≡ from + length (spec.count_bytes words.now count start) }
     ensures bytes_after { bytes.new ≡ laid bytes.old from (spec.count_bytes words.now count start) }
 {
-    let mut at = start;
-    let mut left = count;
     let mut to = from;
-    while 0 < left {
-        to = number::put(bytes, to, wide(words[at + UNKNOWN2_COUNT]));
-        at += width::PROVIDERS;
-        left -= 1;
+    for i in 0..count as usize {
+        let at = start + width::PROVIDERS * i;
+        to = number::put(bytes, to, words[at + UNKNOWN2_COUNT] as u64);
     }
     to
 }
 
 // Whether none of an event's fields is past its width.
+#[tactic(auto, unfolding(index::specs::Index::fit))]
 fn within(identifier: u32, version: u32, channel: u32, level: u32, opcode: u32, task: u32) -> bool
     ensures { result ≡ right.fields_fit (identifier ∷ version ∷ channel ∷ level ∷ opcode ∷ task ∷ []) }
 {
-    if HALF < identifier {
-        return false;
-    }
-    if BYTE < version {
-        return false;
-    }
-    if BYTE < channel {
-        return false;
-    }
-    if BYTE < level {
-        return false;
-    }
-    if BYTE < opcode {
-        return false;
-    }
-    task <= HALF
+    identifier <= HALF
+        && version <= BYTE
+        && channel <= BYTE
+        && level <= BYTE
+        && opcode <= BYTE
+        && task <= HALF
 }
 
 // The same of the event at a place.
@@ -163,14 +134,10 @@ fn all_fit(words: &[u32], start: usize, count: u32) -> bool
     requires { spec.stand (area.width area.EVENTS) count start words.now }
     ensures { result ≡ spec.all_fit (lookup.entries_from (area.width area.EVENTS) count start words.now) }
 {
-    let mut at = start;
-    let mut left = count;
-    while 0 < left {
-        if !fields_fit(words, at) {
+    for i in 0..count as usize {
+        if !fields_fit(words, start + width::EVENTS * i) {
             return false;
         }
-        at += width::EVENTS;
-        left -= 1;
     }
     true
 }
@@ -196,13 +163,7 @@ fn finds(words: &[u32], at: usize, templates: Run) -> bool
     ensures { result ≡ spec.finds_in (runs.entries (area.width area.TEMPLATES) templates words.now) (spec.event_at words.now at) }
 {
     let offset = words[at + EVENT_TEMPLATE];
-    if offset == 0 {
-        return false;
-    }
-    let Some(_) = lists::at_offset(words, templates, offset) else {
-        return false;
-    };
-    true
+    offset != NO_TEMPLATE && lists::at_offset(words, templates, offset).is_some()
 }
 
 // An event's owner, or nobody.
@@ -224,20 +185,16 @@ fn resolve(together: &Together, owners: &mut [u32; 65536])
         lists: together.lists,
     };
     let words = together.lists.words;
-    let mut at = counts::area_at(together.lists.capacities, row::EVENTS);
-    let mut left = together.lists.counts[row::EVENTS];
-    let mut i: usize = 0;
+    let start = counts::area_at(together.lists.capacities, row::EVENTS);
+    let count = together.lists.counts[row::EVENTS];
     let mut known = Known {
         provider: 0,
         templates: fitted.owned(0, kind::TTBL),
     };
-    while 0 < left {
+    for i in 0..count as usize {
         known = templates_of(&fitted, known, owners[i]);
-        let found = finds(words, at, known.templates);
+        let found = finds(words, start + width::EVENTS * i, known.templates);
         owners[i] = kept(found, owners[i]);
-        at += width::EVENTS;
-        left -= 1;
-        i += 1;
     }
 }
 
@@ -247,15 +204,15 @@ fn entry_of(words: &[u32], at: usize, provider: u32) -> [u64; ENTRY]
     ensures { result ≡ spec.entry_at words.now at provider }
 {
     [
-        wide(provider),
-        wide(words[at]),
-        wide(words[at + 1]),
-        wide(words[at + 2]),
-        wide(words[at + 3]),
-        wide(words[at + 4]),
-        wide(words[at + 5]),
-        joined(words[at + 6], words[at + 7]),
-        wide(words[at + EVENT_TEMPLATE]),
+        provider as u64,
+        words[at] as u64,
+        words[at + 1] as u64,
+        words[at + 2] as u64,
+        words[at + 3] as u64,
+        words[at + 4] as u64,
+        words[at + 5] as u64,
+        (words[at + 6] as u64) + 4294967296 * (words[at + 7] as u64),
+        words[at + EVENT_TEMPLATE] as u64,
     ]
 }
 
@@ -263,10 +220,7 @@ fn entry_of(words: &[u32], at: usize, provider: u32) -> [u64; ENTRY]
 fn listed(owner: u32) -> u32
     ensures { result ≡ spec.one_of owner }
 {
-    if owner == NOBODY {
-        return 0;
-    }
-    1
+    u32::from(owner != NOBODY)
 }
 
 // The bytes that they take, of the event at a place.
@@ -300,17 +254,11 @@ fn size_entries(words: &[u32], start: usize, count: u32, owners: &[u32; 65536]) 
     requires { spec.stand (area.width area.EVENTS) count start words.now }
     ensures { spec.Takes (spec.listed_at owners.now words.now 0 count start) result }
 {
-    let mut at = start;
-    let mut left = count;
-    let mut i: usize = 0;
     let mut entries: u32 = 0;
     let mut bytes: usize = 0;
-    while 0 < left {
+    for i in 0..count as usize {
         entries += listed(owners[i]);
-        bytes += size_entry(words, at, owners[i]);
-        at += width::EVENTS;
-        left -= 1;
-        i += 1;
+        bytes += size_entry(words, start + width::EVENTS * i, owners[i]);
     }
     Extent { entries, bytes }
 }
@@ -328,15 +276,9 @@ fn put_entries(
     requires room { from + length (spec.formed (spec.listed_at owners.now words.now 0 count start)) ≤ length bytes.old }
     ensures { bytes.new ≡ laid bytes.old from (spec.formed (spec.listed_at owners.now words.now 0 count start)) }
 {
-    let mut at = start;
-    let mut left = count;
-    let mut i: usize = 0;
     let mut to = from;
-    while 0 < left {
-        to = put_entry(bytes, to, words, at, owners[i]);
-        at += width::EVENTS;
-        left -= 1;
-        i += 1;
+    for i in 0..count as usize {
+        to = put_entry(bytes, to, words, start + width::EVENTS * i, owners[i]);
     }
 }
 
@@ -353,8 +295,8 @@ fn size_index(fitted: &Fitted, owners: &[u32; 65536]) -> Extent
     let providers = counts::area_at(capacities, row::PROVIDERS);
     let events = counts::area_at(capacities, row::EVENTS);
     let found = size_entries(words, events, counts[row::EVENTS], owners);
-    let head = [EDITION, wide(counts[row::PROVIDERS])];
-    let entries = [wide(found.entries)];
+    let head = [EDITION, counts[row::PROVIDERS] as u64];
+    let entries = [found.entries as u64];
     let size = size_all(&head)
         + size_counts(words, providers, counts[row::PROVIDERS])
         + size_all(&entries)
@@ -378,8 +320,8 @@ fn put_index(fitted: &Fitted, owners: &[u32; 65536], found: u32, bytes: &mut [u8
     } = fitted.lists;
     let providers = counts::area_at(capacities, row::PROVIDERS);
     let events = counts::area_at(capacities, row::EVENTS);
-    let head = [EDITION, wide(counts[row::PROVIDERS])];
-    let entries = [wide(found)];
+    let head = [EDITION, counts[row::PROVIDERS] as u64];
+    let entries = [found as u64];
     let to = put_all(bytes, 0, &head);
     let behind = put_counts(bytes, to, words, providers, counts[row::PROVIDERS]);
     let last = put_all(bytes, behind, &entries);

@@ -1,8 +1,6 @@
 -- By the owner.
 use mathlib.Core.Path.{ap, sym, ◌∙◌}
 use lib.ListN.{length}
-use Rattle.blob.specs.Laid.{flat}
-use Rattle.number.specs.Number.{form}
 use Rattle.indexer.specs.Left.{mine-none, mine-one}
 use Rattle.indexer.proofs.size_entry.Goals as goal
 
@@ -10,5 +8,4 @@ pub returns-then-owner-eq-NOBODY : goal.returns-then-owner-eq-NOBODY
 returns-then-owner-eq-NOBODY c = ap length (sym (mine-none _ _ c.if-owner-eq-NOBODY.true))
 
 pub returns : goal.returns
-returns c =
-    c.size_all.ensures ∙ ap (λ ns. length (flat form ns)) c.entry_of-numbers.ensures ∙ ap length (sym (mine-one _ _ c.if-owner-eq-NOBODY.false))
+returns c = c.size_all.ensures ∙ ap length (mine-one _ _ c.if-owner-eq-NOBODY.false _ c.entry_of-numbers.ensures)
