@@ -101,10 +101,6 @@ module _ (width : ℕ) (words : List ℕ) where
       let e : width * left ≡ width + width * (left - 1) = ap (λ n. width * n) s ∙ rw mul-suc (omega arith) in
       (e, omega arith, omega arith)
 
-  -- where a range of them ends
-  pub end : (start first count : ℕ) → start + width * (first + count) ≤ length words → (start + width * first) + width * count ≤ length words
-  end start first count h = omega (arith, mul-add width first count)
-
   -- a word of one of them, and its first words
   pub word_at : (i at : ℕ) → i < width → get_or (take width (drop at words)) i 0 ≡ get_or words (at + i) 0
   word_at i at h = get_or-take width (drop at words) i 0 h ∙ get_or-drop at words i 0

@@ -5,11 +5,11 @@ use Rattle.std.proofs.Math.Path.{refl, sym}
 use Rattle.std.proofs.Common.{ap, ap₂, ◌∙◌, arith, length-append, get_or-set_same, get_or-set_other}
 use Rattle.std.proofs.Math.Bool.{true, false, not}
 use Rattle.std.proofs.lemmas.Bool.{false≢true}
-use mathlib.Core.List.{List, [], ◌∷◌, ◌++◌, map, append_assoc, append-nil}
+use mathlib.Core.List.{List, [], ◌∷◌, ◌++◌, map, append_assoc}
 use Rattle.std.proofs.Math.ListN.{length, length-set}
 use Rattle.std.proofs.lemmas.List.{length-replicate, get_or-replicate}
 use Rattle.std.proofs.Math.Dec.{eqb}
-use borrow.Author.Tests.{eq-eqb, ne_eqb, eqb-true, eqb-false, le-leb, lt-leb, lt-ltb, le-ltb, leb-true, leb-false, ltb-true}
+use borrow.Author.Tests.{eq-eqb, ne_eqb, eqb-true, eqb-false, ltb-true}
 use Rattle.blob.specs.Reading.{choose}
 use Rattle.blob.proofs.Laws.{both}
 use Rattle.format.specs.Area.{PROVIDERS, EVENTS, of}
@@ -83,36 +83,6 @@ AllOwned owners n false = (i : ℕ) × (i < n) × (get_or owners i 0 ≡ NOBODY)
 -- each event has one owner, and this is the one that is stored; there are as many words as before
 abbrev pub Owns : List Entry → ℕ → List ℕ → Bool → Type 0
 Owns tables n owners r = r ≡ true → (length owners ≡ 65536) × ((i : ℕ) → i < n → owners_of tables i ≡ get_or owners i 0 ∷ [])
-
--- Of a range, the events that are left decide: the next one is given, has an owner already, or none is left.
-module _ (owners : List ℕ) (provider at end : ℕ) where
-  -- any other event is in what is left where it was before
-  another : (i : ℕ) → (i ≡ at → ⊥) → leb at i ≡ leb (at + 1) i
-  another i h = go (leb at i) refl
-    where
-      go : (t : Bool) → leb at i ≡ t → t ≡ leb (at + 1) i
-      go true e = sym (le-leb (at + 1) i (omega (arith, leb-true at i e)))
-      go false e = sym (lt-leb (at + 1) i (omega (arith, leb-false at i e)))
-
-  pub take_next : at < end → at < length owners → provider < NOBODY → get_or owners at 0 ≡ NOBODY
-      → (i : ℕ) → given owners i ++ claim at end provider i ≡ given (set owners at provider) i ++ claim (at + 1) end provider i
-  take_next h l n o i = go (eqb i at) refl
-    where
-      go : (t : Bool) → eqb i at ≡ t → given owners i ++ claim at end provider i ≡ given (set owners at provider) i ++ claim (at + 1) end provider i
-      go true e =
-          let k : at < at + 1 = omega arith in
-          rw (eqb-true i at e, eq-eqb _ _ o, get_or-set_same owners at provider 0 l, ne_eqb provider NOBODY (λ z. omega arith), le-leb at at (omega arith), lt-ltb at end h, lt-leb (at + 1) at k)
-      go false e = rw (get_or-set_other owners at i provider 0 (eqb-false i at e), another i (eqb-false i at e))
-
-  pub take_two : at < end → (get_or owners at 0 ≡ NOBODY → ⊥) → length (given owners at ++ claim at end provider at) ≡ 2
-  take_two h o = rw (ne_eqb _ _ o, le-leb at at (omega arith), lt-ltb at end h)
-
-  pub take_none : end ≤ at → (i : ℕ) → given owners i ++ claim at end provider i ≡ given owners i
-  take_none h i = go (leb at i) refl
-    where
-      go : (t : Bool) → leb at i ≡ t → given owners i ++ choose (t && ltb i end) (provider ∷ []) [] ≡ given owners i
-      go true e = rw (le-ltb i end (omega (arith, leb-true at i e))) (append-nil _)
-      go false e = append-nil _
 
 -- A table is passed over, or it is its provider's first EVNT.
 module _ (owners : List ℕ) (seen : List Bool) (t : Entry) where

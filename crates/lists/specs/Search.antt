@@ -134,10 +134,6 @@ nothing-found n e = omega (arith, ap (λ f. length (told f)) e)
 pub same_found : (m n : ℕ) → ◌≡◌ {A = Option ℕ} (Some m) (Some n) → m ≡ n
 same_found m n e = ap (λ f. get_or (told f) 0 0) e
 
-pub none_found : (ns : List ℕ) → found ns ≡ None → ns ≡ []
-none_found [] e = refl
-none_found (n ∷ ns) e = absurd (nothing-found n (sym e))
-
 -- a run's entries, by their numbers
 pub run-rest : (width : ℕ) (r : Run) (words : List ℕ) → rest width words (r.first + r.count) r.start r.first ≡ entries width r words
 run-rest width r words = rest_from width words (r.first + r.count) r.start r.first r.count refl

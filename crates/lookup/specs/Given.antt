@@ -4,11 +4,10 @@ use Prim.{Unit}
 use Prim.Native.Nat.{ℕ, zero, suc, ◌+◌, ◌*◌, ◌-◌, ◌/◌, ◌≤◌, ◌<◌, min}
 use Rattle.std.specs.Prelude.{Option, Some, None, ◌≡◌, Bool, not, ◌&&◌, length, get_or, take, drop, set, replicate, eqb, leb}
 use Rattle.std.proofs.Math.Path.{refl, ap, ap₂}
-use Rattle.std.proofs.Common.{sym, ◌∙◌, subst, length-take, length-drop, take-take, eq-eqb, ne_eqb, le-leb}
+use Rattle.std.proofs.Common.{sym, ◌∙◌, subst, length-take, length-drop, take-take, ne_eqb, le-leb}
 use Rattle.std.proofs.Math.Bool.{true, false}
 use mathlib.Core.List.{List, [], ◌∷◌, ◌++◌, map, append_assoc}
 use native.Mathlib.Omega.{arith}
-use Rattle.std.proofs.lemmas.Bool.{lt-leb}
 use Rattle.blob.specs.Reading.{Outcome, done, refused, choose}
 use Rattle.blob.specs.Laid.{laid, laid_more, flat, flat_map}
 use Rattle.format.specs.Area.{PROVIDERS, EVENTS, TEMPLATES, GUIDS, place, width}
@@ -159,12 +158,6 @@ module _ (words : List ℕ) (templates : Run) (key : List ℕ) (at : ℕ) (k : l
       ≡ choose (alike (take (length key) (drop at words)) key && not (eqb (get_or words (at + EVENT_TEMPLATE) 0) 0)) (lowest words templates (get_or words (at + EVENT_TEMPLATE) 0)) []
   number-at = rw (k, take-take KEY (width EVENTS) (drop at words) (omega arith), word_at (width EVENTS) words EVENT_TEMPLATE at (omega arith))
 
-  pub number-other : alike (take (length key) (drop at words)) key ≡ false → number_at words templates key at ≡ []
-  number-other e = number-at ∙ rw e
-
-  pub number-none : alike (take (length key) (drop at words)) key ≡ true → get_or words (at + EVENT_TEMPLATE) 0 ≡ 0 → number_at words templates key at ≡ []
-  number-none e h = number-at ∙ rw (e, eq-eqb _ _ h)
-
   pub number-some : alike (take (length key) (drop at words)) key ≡ true → (get_or words (at + EVENT_TEMPLATE) 0 ≡ 0 → ⊥)
       → number_at words templates key at ≡ lowest words templates (get_or words (at + EVENT_TEMPLATE) 0)
   number-some e h = number-at ∙ rw (e, ne_eqb _ _ h)
@@ -261,10 +254,6 @@ module _ (words : List ℕ) (list templates : Run) (key : List ℕ) (marks : Lis
   pub tells_over : r ≡ None → firsts words l marks (numbers words templates key events ++ others) ≡ firsts words l marks' others
   tells_over o = tells ∙ ap (told words l templates key marks' others) o
 
-  pub tells_template : (n : ℕ) (rest : Run) → r ≡ Some (n, rest)
-      → firsts words l marks (numbers words templates key events ++ others) ≡ n ∷ firsts words l marks' (numbers words templates key rest ++ others)
-  tells_template n rest o = tells ∙ ap (told words l templates key marks' others) o
-
 pub next-below : (words : List ℕ) (templates : Run) (key : List ℕ) (marks : List Bool) (at n : ℕ) → unmarked marks (found (number_at words templates key at)) ≡ Some n
     → n < templates.first + templates.count
 next-below words templates key marks at n e =
@@ -275,10 +264,6 @@ pub next-none : (words : List ℕ) (list templates events : Run) (key : List ℕ
 unfolding rest flat
 next-none words list templates events key marks n others h =
     ap (λ (es : List Entry). firsts words list marks (flat (number_of words templates key) es ++ others)) (rest_none (width EVENTS) words (events.first + events.count) events.start n h)
-
--- from its first one on, a run is whole
-pub from-first : (r : Run) → from r r.first ≡ r
-from-first r = let c : r.first + r.count - r.first ≡ r.count = omega arith in rw c
 
 none_left : {A : Type 0} (l : List A) → length l ≤ 0 → l ≡ []
 none_left [] h = refl
@@ -303,8 +288,6 @@ guid-length words list n f h = simp (length-take, length-drop) (omega (arith, f)
 
 -- What is given, by the number that was counted: too many for the lent list, or all.
 module _ (gs : List Entry) (lent : List ℕ) (n : ℕ) (e : n ≡ min (length gs) (length lent / GUID + 1)) where
-  pub give_short : length lent / GUID < n → room_for lent gs ≡ refused (too_small GUIDS (length lent / GUID))
-  give_short h = let l : length lent / GUID < length gs = omega arith in rw (lt-leb _ _ l)
 
   pub give_all : n ≤ length lent / GUID → (room_for lent gs ≡ done gs) × (n ≡ length gs) × (GUID * length gs ≤ length lent)
   give_all h = let l : length gs ≤ length lent / GUID = omega arith in (rw (le-leb _ _ l), omega arith, omega arith)

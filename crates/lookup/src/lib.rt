@@ -159,6 +159,7 @@ fn advance(
     let words = together.lists.words;
     let list = together.lists.run_of(row::TEMPLATES);
     let mut at = walk;
+    // No count: a turn ends it or comes to a provider behind.
     loop {
         if let Some((n, events)) = next_new(words, at.events, at.templates, list, key, marks) {
             return Some((n, Walk { events, ..at }));

@@ -1,19 +1,12 @@
 -- The invariant: what is left decides.
 use mathlib.Core.Path.{ap, sym, ◌∙◌}
 use Rattle.format.specs.Lookup.{position}
-use Rattle.lists.specs.Entries.{one_in}
 use Rattle.lists.specs.Found.{found, has}
 use Rattle.lists.specs.Search.{position_here, position-behind, position-none, run-rest}
-use native.Mathlib.Omega.{arith}
 use Rattle.lists.proofs.find.Goals as goal
 
 pub loop-number-init : goal.loop-number-init
 loop-number-init c = ap (position (has c.args.from c.args.key.now) c.args.run.first) (sym (run-rest _ c.args.run c.args.words.now))
-
-pub same-requires : goal.same-requires
-same-requires c =
-    let h = one_in c.width_of-width.result c.args.words.now _ _ _ c.loop-number-test.true (rw (← c.width_of-width.ensures.0) at c.requires.few.0) in
-    omega (arith, h, rw (← c.width_of-width.ensures.0) at c.requires.row_lt_areas.1)
 
 pub returns-then-same : goal.returns-then-same
 returns-then-same c =

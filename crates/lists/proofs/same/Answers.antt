@@ -1,11 +1,7 @@
 -- The invariant: what is left decides.
 use mathlib.Core.Path.{sym, ◌∙◌}
-use native.Mathlib.Numerals.{unary_clauses}
 use Rattle.lists.specs.Search.{alike-equal, alike-other, alike-none}
 use Rattle.lists.proofs.same.Goals as goal
-
-pub loop-i-init : goal.loop-i-init
-loop-i-init c = simp unary_clauses
 
 pub returns-then-words-at : goal.returns-then-words-at
 returns-then-words-at c =

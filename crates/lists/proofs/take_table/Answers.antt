@@ -1,5 +1,5 @@
 -- By the tests, in their order.
-use mathlib.Core.Path.{◌≡◌, sym, ◌∙◌}
+use mathlib.Core.Path.{◌≡◌}
 use mathlib.Core.Bool.{true}
 use borrow.Author.Tests.{eq-eqb, ne_eqb}
 use lib.ListN.{take, drop}
@@ -14,10 +14,6 @@ returns-then-table_word-ne-EVNT c =
 pub returns-then-seen-i : goal.returns-then-seen-i
 returns-then-seen-i c =
     passed c.args.owners.now c.args.seen.now (take (width TABLES) (drop c.args.at c.args.words.now)) (rw (← c.table_word.ensures, ← c.table_word-provider.ensures, eq-eqb _ _ c.if-table_word-ne-EVNT.false, c.if-seen-i.true))
-
-pub take_events-requires : goal.take_events-requires
-take_events-requires c =
-    (c.requires.tables_in_bounds.1, rw (c.table_word-2.ensures, c.table_word-3.ensures) (c.requires.bounded.1 (sym c.table_word.ensures ∙ c.if-table_word-ne-EVNT.false)), rw c.table_word-provider.ensures c.requires.bounded.0)
 
 pub returns : goal.returns
 returns c =

@@ -1,43 +1,14 @@
 -- The invariant: those that are left, laid from here, make the list what it shall be.
-use Prim.Native.Nat.{◌*◌, ◌<◌}
-use mathlib.Core.Path.{refl, ap, sym, ◌∙◌, subst}
+use Prim.Native.Nat.{◌*◌}
+use mathlib.Core.Path.{ap, sym, ◌∙◌, subst}
 use lib.ListN.{length}
 use Rattle.blob.specs.Laid.{laid}
 use Rattle.format.specs.Area.{TEMPLATES, place}
 use Rattle.format.specs.Entry.{GUID}
 use Rattle.lists.specs.Found.{run_of}
-use Rattle.lookup.specs.Given.{Listed, guid_of, stepped, onward, guids_more, guids_none, guid-length}
+use Rattle.lookup.specs.Given.{guid_of, stepped, onward, guids_more, guids_none, guid-length}
 use native.Mathlib.Omega.{arith}
 use Rattle.lookup.proofs.fill.Goals as goal
-
-pub loop-i-init : goal.loop-i-init
-loop-i-init c =
-    (c.requires.stands, refl, (omega (arith, c.requires.n_value), c.requires.n_value.1), refl)
-
-pub shape_of-guids-in_default : goal.shape_of-guids-in_default
-shape_of-guids-in_default c = c.loop-i.invariant.1
-
-pub returns-in_default : goal.returns-in_default
-returns-in_default c =
-    let l = c.args.together.now.lists in
-    sym (c.loop-i.invariant.3 ∙ guids_none (guid_of l.words.now (run_of l.capacities l.counts (place TEMPLATES))) _ _ _ (omega (arith, ap length (c.advance.ensures.walk_after ∙ ap (stepped l.words.now l.capacities l.counts c.args.guid.now c.args.key.now _) c.in_default.is))))
-
-pub guid_of-requires : goal.guid_of-requires
-guid_of-requires c =
-    let l = c.args.together.now.lists in
-    let h = subst (onward l.words.now (run_of l.capacities l.counts (place TEMPLATES))) c.in-Some.is c.advance.ensures.onward in
-    subst (λ r. Listed r l.words.now × (c.in-Some.t < r.count)) (sym c.run_of-list.ensures) (h.1.1.0, h.0)
-
-pub put-requires : goal.put-requires
-put-requires c =
-    let l = c.args.together.now.lists in
-    let list = run_of l.capacities l.counts (place TEMPLATES) in
-    let h = subst (onward l.words.now list) c.in-Some.is c.advance.ensures.onward in
-    let g = guid-length l.words.now list _ h.1.1.0 h.0 in
-    omega (arith, c.loop-i.invariant.2, c.loop-i-test.true, ap length (c.guid_of.ensures ∙ ap (λ r. guid_of l.words.now r c.in-Some.t) c.run_of-list.ensures) ∙ g)
-
-pub shape_of-guids : goal.shape_of-guids
-shape_of-guids c = c.loop-i.invariant.1
 
 pub returns : goal.returns
 returns c =

@@ -8,28 +8,10 @@ use Rattle.format.specs.Area.{TEMPLATES, place}
 use Rattle.format.specs.Entry.{GUID}
 use Rattle.format.specs.Lookup.{key_words, guids_found, guids_held}
 use Rattle.lists.specs.Found.{run_of}
-use Rattle.lookup.specs.Given.{guid_of, unset, new_of, guids_from, give_short, give_all, stored_guids}
+use Rattle.lookup.specs.Given.{guid_of, unset, new_of, guids_from, give_all, stored_guids}
 use Rattle.lookup.specs.ByKey.{given-none}
 use native.Mathlib.Omega.{arith}
 use Rattle.lookup.proofs.give.Goals as goal
-
-pub returns-then-capacity-n : goal.returns-then-capacity-n
-returns-then-capacity-n c =
-    let ns = new_of c.args.together.now.lists.words.now c.args.together.now.lists.capacities c.args.together.now.lists.counts c.args.guid.now (key_words c.args.k) unset c.args.walk in
-    let list = run_of c.args.together.now.lists.capacities c.args.together.now.lists.counts (place TEMPLATES) in
-    let m = length-map ns (guid_of c.args.together.now.lists.words.now list) in
-    let e = c.count-n.ensures ∙ ap (λ n. min n (length c.args.guids.now / GUID + 1)) (sym m) in
-    let x = give_short (guids_from c.args.together.now.lists.words.now c.args.together.now.lists.capacities c.args.together.now.lists.counts c.args.guid.now (key_words c.args.k) c.args.walk) c.args.guids.now _ e c.if-capacity-n.true in
-    record { value = ap guids_found (sym x); guids_after = ap (guids_held c.args.guids.now) (sym x) }
-
-pub fill-requires : goal.fill-requires
-fill-requires c =
-    let ns = new_of c.args.together.now.lists.words.now c.args.together.now.lists.capacities c.args.together.now.lists.counts c.args.guid.now (key_words c.args.k) unset c.args.walk in
-    let list = run_of c.args.together.now.lists.capacities c.args.together.now.lists.counts (place TEMPLATES) in
-    let m = length-map ns (guid_of c.args.together.now.lists.words.now list) in
-    let e = c.count-n.ensures ∙ ap (λ n. min n (length c.args.guids.now / GUID + 1)) (sym m) in
-    let g = give_all (guids_from c.args.together.now.lists.words.now c.args.together.now.lists.capacities c.args.together.now.lists.counts c.args.guid.now (key_words c.args.k) c.args.walk) c.args.guids.now _ e c.if-capacity-n.false in
-    record { guid_len = (c.requires.guid_len.0, omega arith); stands = c.requires.stands; n_value = (g.1 ∙ m, omega (arith, g.1, g.2)) }
 
 pub returns : goal.returns
 returns c =

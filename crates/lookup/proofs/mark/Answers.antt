@@ -1,22 +1,15 @@
 -- The invariant: what is left decides.
-use Prim.Native.Nat.{◌-◌, ◌+◌, ◌*◌}
-use mathlib.Core.Path.{◌≡◌, ap, ap₂, sym, ◌∙◌}
+use Prim.Native.Nat.{◌+◌, ◌*◌}
+use mathlib.Core.Path.{◌≡◌, ap, sym, ◌∙◌}
 use mathlib.Core.Bool.{Bool, true, false}
 use lib.ListN.{length, get_or, set, take, drop}
 use Rattle.blob.specs.Reading.{choose}
-use Rattle.lookup.specs.Given.{marked_from, marked_more, marked-none}
-use native.Mathlib.Omega.{arith}
+use Rattle.lookup.specs.Given.{marked_more, marked-none}
 use Rattle.format.specs.Area.{TEMPLATES, width}
 use Rattle.format.specs.Entry.{TEMPLATE_GUID}
 use Rattle.format.specs.Lookup.{alike}
 use Rattle.lookup.proofs.mark.Goals as goal
 use Rattle.lookup.proofs.mark.Goals.{then-given, else-given}
-
-pub loop-i-init : goal.loop-i-init
-loop-i-init c =
-    let n : c.args.list.count - 0 ≡ c.args.list.count = omega arith in
-    let s : c.args.list.start + width TEMPLATES * 0 ≡ c.args.list.start = omega arith in
-    ap₂ (λ l at. marked_from c.args.words.now c.args.guid.now 0 l at c.args.marks.now) (sym n) (sym s)
 
 pub loop-i-preserved : goal.loop-i-preserved
 loop-i-preserved c =

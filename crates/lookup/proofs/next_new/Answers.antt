@@ -1,16 +1,10 @@
 -- The invariant: what is left decides.
 use Prim.{tt}
 use mathlib.Core.Path.{refl, ap, sym, ◌∙◌}
-use mathlib.Core.List.{◌++◌}
 use lib.ListN.{length}
-use Rattle.lists.specs.declared.Run.{Run}
-use Rattle.lookup.specs.Given.{numbers, firsts, marked, guid-length, from-first, next-skip, next-give, next-below, next-none}
+use Rattle.lookup.specs.Given.{marked, guid-length, next-skip, next-give, next-below, next-none}
 use native.Mathlib.Omega.{arith}
 use Rattle.lookup.proofs.next_new.Goals as goal
-
-pub loop-number-init : goal.loop-number-init
-loop-number-init c =
-    λ others. ap (λ (r : Run). firsts c.args.words.now c.args.list c.args.marks.now (numbers c.args.words.now c.args.templates c.args.key.now r ++ others)) (sym (from-first c.args.events))
 
 pub guid_of-requires : goal.guid_of-requires
 guid_of-requires c =

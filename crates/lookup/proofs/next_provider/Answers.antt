@@ -1,13 +1,11 @@
 -- By the number that was found.
-use Prim.{tt}
 use Rattle.std.specs.Prelude.{Some}
 use mathlib.Core.Path.{ap, ap₂, sym, ◌∙◌, subst}
 use Rattle.format.specs.Area.{PROVIDERS, TEMPLATES, place, width}
 use Rattle.format.specs.Table.{EVNT}
-use Rattle.format.specs.Lookup.{position}
 use Rattle.lists.specs.declared.Run.{Run}
 use Rattle.lists.specs.Found.{entries, run_of, has, owned}
-use Rattle.lists.specs.Search.{none_found, position-found}
+use Rattle.lists.specs.Search.{position-found}
 use Rattle.lookup.specs.declared.Walk.{Walk}
 use Rattle.lookup.specs.Given.{came, arrived}
 use Rattle.lookup.specs.ByKey.{came-to}
@@ -15,11 +13,6 @@ use Rattle.lookup.proofs.next_provider.Goals as goal
 
 abbrev at : Run → Run → Run → Walk
 at events templates providers = record { events = events; templates = templates; providers = providers }
-
-pub returns-in_err-p : goal.returns-in_err-p
-returns-in_err-p c =
-    rw c.from_residual.ensures
-    record { value = ap (came c.args.together.now.lists.words.now c.args.together.now.lists.capacities c.args.together.now.lists.counts c.args.providers) (sym (none_found (position (has 0 c.args.guid.now) c.args.providers.first (entries (width PROVIDERS) c.args.providers c.args.together.now.lists.words.now)) (sym c.find.ensures ∙ c.in_err-p.was))); arrived = tt }
 
 pub behind-behind-requires : goal.behind-behind-requires
 behind-behind-requires c =

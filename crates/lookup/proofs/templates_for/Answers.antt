@@ -1,13 +1,13 @@
 -- By the tests, in their order.
 use mathlib.Core.Path.{refl, ap, sym, ◌∙◌, subst}
 use mathlib.Core.List.{[]}
-use Rattle.format.specs.Area.{PROVIDERS, TEMPLATES, place, width}
+use Rattle.format.specs.Area.{PROVIDERS, place, width}
 use Rattle.format.specs.Lists.{guid_words}
 use Rattle.format.specs.Lookup.{guids_found, guids_held}
 use Rattle.blob.proofs.Laws.{handed_on}
 use Rattle.lists.specs.Fit.{fits_together, whole-few}
-use Rattle.lists.specs.Found.{few, run_of}
-use Rattle.lookup.specs.Given.{next_provider, arrived, room_for}
+use Rattle.lists.specs.Found.{few}
+use Rattle.lookup.specs.Given.{next_provider, room_for}
 use Rattle.lookup.specs.ByKey.{key-wide, key-refused, key-room, key-given, given-none, refusal-keeps}
 use native.Mathlib.Omega.{arith}
 use Rattle.lookup.proofs.templates_for.Goals as goal
@@ -24,11 +24,6 @@ pub next_provider-requires : goal.next_provider-requires
 next_provider-requires c =
     let l = c.in_ok-together.together.lists in
     record { guid_len = (omega arith, subst (λ u. few (width PROVIDERS) u l.words.now) (sym c.run_of-providers.ensures) (whole-few l.words.now l.capacities l.counts c.in_ok-together.together.fits (place PROVIDERS))) }
-
-pub give-requires : goal.give-requires
-give-requires c =
-    let l = c.in_ok-together.together.lists in
-    record { guid_len = (omega arith, c.if-guids.false); stands = (subst (arrived l.words.now (run_of l.capacities l.counts (place TEMPLATES)) c.run_of-providers.result) c.in-Some.is c.next_provider.ensures.arrived).0 }
 
 pub returns-in_default : goal.returns-in_default
 returns-in_default c =

@@ -25,9 +25,6 @@ loop-i-init c =
           (sym (rest_all (width TABLES) l.words.now _ _ ∙ ap (λ (r : Run). entries_from (width TABLES) r.count r.start l.words.now) c.run_of-tables.ensures)),
     )
 
-pub table_fits-requires : goal.table_fits-requires
-table_fits-requires c = one_in (width TABLES) c.args.self.now.lists.words.now _ _ _ c.loop-i-test.true c.loop-i.invariant.0
-
 pub returns-then-not-table_fits : goal.returns-then-not-table_fits
 returns-then-not-table_fits c =
     sym (c.loop-i.invariant.1 ∙ every_stop _ c.args.self.now.lists.words.now (width TABLES) _ _ _ c.loop-i-test.true (rw (sym c.table_fits.ensures ∙ c.if-not-table_fits.true)))
