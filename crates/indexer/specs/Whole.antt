@@ -42,7 +42,7 @@ module _ (words capacities counts owners : List ℕ) where
   abbrev tail : List ℕ
   tail = length events ∷ flat entry_of events
 
-  abbrev head : List ℕ
+  abbrev pub head : List ℕ
   head = EDITION ∷ of PROVIDERS counts ∷ []
 
   all-numbers : numbers (index_by words capacities counts owners) ≡ head ++ (unknown2s providers ++ tail)
@@ -59,32 +59,31 @@ module _ (words capacities counts owners : List ℕ) where
         third = record { equal = flat_append form (length events ∷ []) (flat entry_of events) };
       }
 
-  -- by the numbers and the places that the code has
-  pub parts : (n m p e : ℕ) → n ≡ of PROVIDERS counts → m ≡ length events → p ≡ areas rows (take (place PROVIDERS) capacities) → e ≡ areas rows (take (place EVENTS) capacities)
-      → Parts (written (index_by words capacities counts owners)) (flat form (EDITION ∷ n ∷ [])) (count_bytes words (of PROVIDERS counts) p) (flat form (m ∷ []))
-      (formed (listed_at owners words 0 (of EVENTS counts) e))
-  parts n m p e en em ep ee = rw (en, em, ep, ee) all_bytes
+  -- by the number and the places that the code has
+  module _ (m p e : ℕ) (em : m ≡ length events) (ep : p ≡ areas rows (take (place PROVIDERS) capacities)) (ee : e ≡ areas rows (take (place EVENTS) capacities)) where
+    pub parts : Parts (written (index_by words capacities counts owners)) (flat form head) (count_bytes words (of PROVIDERS counts) p) (flat form (m ∷ [])) (formed (listed_at owners words 0 (of EVENTS counts) e))
+    parts = rw (em, ep, ee) all_bytes
 
-  -- so many bytes, and not too many to be counted
-  module _ (f : Fit words capacities counts) where
-    pub whole-size : (n m p e : ℕ) → n ≡ of PROVIDERS counts → m ≡ length events → p ≡ areas rows (take (place PROVIDERS) capacities) → e ≡ areas rows (take (place EVENTS) capacities)
+    -- so many bytes, and not too many to be counted
+    pub whole-size : Fit words capacities counts
         → (length (written (index_by words capacities counts owners))
-        ≡ length (flat form (EDITION ∷ n ∷ [])) + length (count_bytes words (of PROVIDERS counts) p) + length (flat form (m ∷ [])) + length (formed (listed_at owners words 0 (of EVENTS counts) e)))
+        ≡ length (flat form head) + length (count_bytes words (of PROVIDERS counts) p) + length (flat form (m ∷ [])) + length (formed (listed_at owners words 0 (of EVENTS counts) e)))
         × (length (written (index_by words capacities counts owners)) ≤ 10 * (3 + 65536 + ENTRY * 65536))
-    whole-size n m p e en em ep ee = (
-      parts-size (parts n m p e en em ep ee),
-      omega (
-        arith,
-        parts-size all_bytes,
-        forms_short head,
-        counts-short words (of PROVIDERS counts) (areas rows (take (place PROVIDERS) capacities)),
-        forms_short (length events ∷ []),
-        formed-short events,
-        listed-short owners words (of EVENTS counts) (areas rows (take (place EVENTS) capacities)),
-        (inside words capacities counts f (place PROVIDERS)).1,
-        (inside words capacities counts f (place EVENTS)).1,
-      ),
-    )
+    whole-size f =
+        let s = parts-size parts in (
+          s,
+          omega (
+            arith,
+            s,
+            forms_short head,
+            counts-short words (of PROVIDERS counts) p,
+            forms_short (m ∷ []),
+            formed-short (listed_at owners words 0 (of EVENTS counts) e),
+            listed-short owners words (of EVENTS counts) e,
+            (inside words capacities counts f (place PROVIDERS)).1,
+            (inside words capacities counts f (place EVENTS)).1,
+          ),
+        )
 
 -- a whole list stands in the words, from where its area starts
 pub list-stands : (words capacities counts : List ℕ) → Fit words capacities counts → (row start : ℕ) → start ≡ areas rows (take row capacities) → stand (get_or widths row 0) (get_or counts row 0) start words

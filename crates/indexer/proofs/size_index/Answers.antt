@@ -1,5 +1,4 @@
 -- What is counted, one behind the other, is the whole.
-use mathlib.Core.Path.{refl}
 use native.Mathlib.Omega.{arith}
 use Rattle.format.specs.Area.{PROVIDERS, EVENTS, place}
 use Rattle.lists.specs.Fit.{inside}
@@ -22,26 +21,26 @@ pub overflow_add-size : goal.overflow_add-size
 overflow_add-size c =
     let l = c.args.fitted.now.lists in
     let m = rw c.area_at-events.ensures.0 at c.size_entries-found.ensures.counted in
-    let s = whole-size l.words.now l.capacities l.counts c.args.owners.now c.args.fitted.now.fits _ _ _ _ refl m c.area_at-providers.ensures.0 c.area_at-events.ensures.0 in
+    let s = whole-size l.words.now l.capacities l.counts c.args.owners.now _ _ _ m c.area_at-providers.ensures.0 c.area_at-events.ensures.0 c.args.fitted.now.fits in
     omega (arith, s)
 
 pub overflow_add-size-2 : goal.overflow_add-size-2
 overflow_add-size-2 c =
     let l = c.args.fitted.now.lists in
     let m = rw c.area_at-events.ensures.0 at c.size_entries-found.ensures.counted in
-    let s = whole-size l.words.now l.capacities l.counts c.args.owners.now c.args.fitted.now.fits _ _ _ _ refl m c.area_at-providers.ensures.0 c.area_at-events.ensures.0 in
+    let s = whole-size l.words.now l.capacities l.counts c.args.owners.now _ _ _ m c.area_at-providers.ensures.0 c.area_at-events.ensures.0 c.args.fitted.now.fits in
     omega (arith, s)
 
 pub overflow_add-size-3 : goal.overflow_add-size-3
 overflow_add-size-3 c =
     let l = c.args.fitted.now.lists in
     let m = rw c.area_at-events.ensures.0 at c.size_entries-found.ensures.counted in
-    let s = whole-size l.words.now l.capacities l.counts c.args.owners.now c.args.fitted.now.fits _ _ _ _ refl m c.area_at-providers.ensures.0 c.area_at-events.ensures.0 in
+    let s = whole-size l.words.now l.capacities l.counts c.args.owners.now _ _ _ m c.area_at-providers.ensures.0 c.area_at-events.ensures.0 c.args.fitted.now.fits in
     omega (arith, s, c.size_entries-found.ensures.sized)
 
 pub returns : goal.returns
 returns c =
     let l = c.args.fitted.now.lists in
     let m = rw c.area_at-events.ensures.0 at c.size_entries-found.ensures.counted in
-    let s = whole-size l.words.now l.capacities l.counts c.args.owners.now c.args.fitted.now.fits _ _ _ _ refl m c.area_at-providers.ensures.0 c.area_at-events.ensures.0 in
+    let s = whole-size l.words.now l.capacities l.counts c.args.owners.now _ _ _ m c.area_at-providers.ensures.0 c.area_at-events.ensures.0 c.args.fitted.now.fits in
     (m, omega (arith, s, c.size_entries-found.ensures.sized))
