@@ -6,6 +6,7 @@ pub mod Name
 pub mod Area
 pub mod Entry
 pub mod Table
+pub mod Kinds
 pub mod Definition
 pub mod Event
 pub mod Item
