@@ -6,7 +6,6 @@ pub mod Name
 pub mod Area
 pub mod Entry
 pub mod Table
-pub mod Kinds
 pub mod Definition
 pub mod Event
 pub mod Item
@@ -26,5 +25,6 @@ pub mod Call
 pub mod Rests
 -- What the building blocks speak of besides, on the way there.
 pub mod Steps
+pub mod Kinds
 -- What a theorem supposes.
 pub mod Theorems

@@ -1,25 +1,37 @@
 ghost use Rattle.std.specs.Prelude.{◌≡◌, ◌≤◌, ◌<◌, ◌⊎◌, MatchOption};
 ghost use Rattle.format.specs.Kinds as kinds;
 
-// The kinds of tables, in the order of their numbers.
+// The kinds of tables, by their numbers.
 #[derive(Clone, Copy)]
 pub enum Kind {
-    Chan,
-    Evnt,
-    Keyw,
-    Levl,
-    Maps,
-    Opco,
-    Task,
-    Ttbl,
+    Chan = 1,
+    Evnt = 2,
+    Keyw = 3,
+    Levl = 4,
+    Maps = 5,
+    Opco = 6,
+    Task = 7,
+    Ttbl = 8,
 }
 
 impl Kind {
+    // In the order of their numbers.
+    pub const ALL: [Kind; 8] = [
+        Kind::Chan,
+        Kind::Evnt,
+        Kind::Keyw,
+        Kind::Levl,
+        Kind::Maps,
+        Kind::Opco,
+        Kind::Task,
+        Kind::Ttbl,
+    ];
+
     // From 1 to 8.
     pub fn number(self) -> u32
         ensures { (result ≡ kinds.number self) × (1 ≤ result) × (result ≤ 8) }
     {
-        self as u32 + 1
+        self as u32
     }
 
     // The kind with a number.
@@ -39,18 +51,6 @@ impl Kind {
         }
     }
 }
-
-// All of them, in that order.
-pub const KINDS: [Kind; 8] = [
-    Kind::Chan,
-    Kind::Evnt,
-    Kind::Keyw,
-    Kind::Levl,
-    Kind::Maps,
-    Kind::Opco,
-    Kind::Task,
-    Kind::Ttbl,
-];
 
 // Kinds of maps.
 pub const VALUE_MAP: u32 = 1;
