@@ -10,17 +10,17 @@ use Rattle.lists.specs.Tables.{range-few, range-entries}
 use borrow.Author.Tests.{eq-eqb, ne_eqb}
 use Rattle.lists.proofs.table_owns.Goals as goal
 
-pub returns-then-table_word-ne-TTBL : goal.returns-then-table_word-ne-TTBL
-returns-then-table_word-ne-TTBL c = rw (ne_eqb _ _ (λ e. c.if-table_word-ne-TTBL.true (c.table_word.ensures ∙ e)))
+pub returns-then-table_word-number : goal.returns-then-table_word-number
+returns-then-table_word-number c = rw (ne_eqb _ _ (λ e. c.if-table_word-number.true (c.table_word.ensures ∙ e ∙ sym c.number.ensures.0)))
 
 pub all_of-requires : goal.all_of-requires
 all_of-requires c =
     let t = take (width TABLES) (drop c.args.at c.args.words.now) in
-    let h = c.requires.first_value.1 (sym c.table_word.ensures ∙ c.if-table_word-ne-TTBL.false) in
+    let h = c.requires.first_value.1 (sym c.table_word.ensures ∙ (c.if-table_word-number.false ∙ c.number.ensures.0)) in
     subst (λ r. few (width TEMPLATES) r c.args.words.now) (sym c.range_at.ensures) (range-few c.args.words.now c.args.templates c.requires.first_value.0 t h c.requires.tables_in_bounds.1)
 
 pub returns : goal.returns
 returns c =
     let t = take (width TABLES) (drop c.args.at c.args.words.now) in
-    let e = sym c.table_word.ensures ∙ c.if-table_word-ne-TTBL.false in
+    let e = sym c.table_word.ensures ∙ (c.if-table_word-number.false ∙ c.number.ensures.0) in
     c.all_of.ensures ∙ rw (c.table_word-provider.ensures, c.range_at.ensures, eq-eqb (word_of TABLE_KIND t) TTBL e, range-entries c.args.words.now c.args.templates c.requires.first_value.0 t (c.requires.first_value.1 e))
