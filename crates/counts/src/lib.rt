@@ -7,29 +7,29 @@ ghost use Rattle.format.specs.Area as area;
 ghost use Rattle.format.specs.Answer as answer;
 ghost use Rattle.format.specs.Steps.Needs as needs;
 ghost use Rattle.format.specs.Table.{kind_list};
+ghost use Rattle.format.specs.Kinds.{number};
 ghost use Rattle.counts.specs.Short.{widths, numbers, short};
 
 use blob::Refusal;
-use format::kind::{EVNT, MAPS, TTBL};
+use format::kind::Kind;
 use format::list::{AREAS, MOST, NUMBERS, WORDS, row};
 
 // Which row has the entries of a kind's tables.
-pub fn row_of(kind: u32) -> usize
-    requires { (1 ≤ kind) × (kind ≤ 8) }
-    ensures { (result ≡ area.place (kind_list kind)) × (result < area.AREAS) }
+pub fn row_of(kind: Kind) -> usize
+    ensures { (result ≡ area.place (kind_list (number kind))) × (result < area.AREAS) }
 {
     match kind {
-        EVNT => row::EVENTS,
-        MAPS => row::MAPS,
-        TTBL => row::TEMPLATES,
+        Kind::Evnt => row::EVENTS,
+        Kind::Maps => row::MAPS,
+        Kind::Ttbl => row::TEMPLATES,
         _ => row::DEFINITIONS,
     }
 }
 
 // With so many more in the list of a kind's entries, as far as anyone asks.
-pub fn grow(ns: [u32; AREAS], kind: u32, n: u32) -> [u32; AREAS]
-    requires { (1 ≤ kind) × (kind ≤ 8) × needs.modest ns }
-    ensures { result ≡ needs.grown (kind_list kind) n ns }
+pub fn grow(ns: [u32; AREAS], kind: Kind, n: u32) -> [u32; AREAS]
+    requires { needs.modest ns }
+    ensures { result ≡ needs.grown (kind_list (number kind)) n ns }
 {
     let i = row_of(kind);
     let mut out = ns;

@@ -9,21 +9,15 @@ use Rattle.blob.specs.Reading.{Reading, Outcome, done, refused, choose, run, man
 use Rattle.blob.proofs.Laws.{fine-value, refused-value, bind_fine, run-number, run-after, run-stopped}
 use Rattle.format.specs.Region.{blob_end, until}
 use Rattle.format.proofs.Theorems.Until.{name-until}
-use Rattle.table.specs.Headers.{no, of-kinds}
 use Rattle.words.specs.Guid.{guid-found}
 use Rattle.format.specs.Name.{absent, name_at}
-use Rattle.format.specs.Table.{CHAN, KEYW, LEVL, OPCO, TASK, header_length, stride, table_end}
+use Rattle.format.specs.Table.{CHAN, KEYW, TASK, header_length, stride, table_end}
 use Rattle.format.specs.Definition.{guid_at, channel_fields, keyword_fields, task_fields, plain_fields, fields_at, name_field, named, definition_at, step, definitions_at}
 use Rattle.blob.specs.declared.Refusal.{Refusal}
 use Rattle.format.specs.declared.Guid.{Guid}
 use Rattle.format.specs.declared.Name.{Name}
 use Rattle.format.specs.declared.Definition.{Definition}
 use Rattle.format.specs.declared.Header.{Header}
-
--- the other kinds have no names
-pub no_name : (k : ℕ) → k ≤ 8 → no k CHAN → no k KEYW → no k LEVL → no k OPCO → no k TASK → name_field k ≡ 0
-no_name =
-    of-kinds (λ k. no k CHAN → no k KEYW → no k LEVL → no k OPCO → no k TASK → name_field k ≡ 0) (λ a b c d e. refl) (λ a b c d e. absurd (a refl)) (λ a b c d e. refl) (λ a b c d e. absurd (b refl)) (λ a b c d e. absurd (c refl)) (λ a b c d e. refl) (λ a b c d e. absurd (d refl)) (λ a b c d e. absurd (e refl)) (λ a b c d e. refl)
 
 -- a task's fields, once its GUID is read
 pub task_found : (at : ℕ) (s : List ℕ) (g : Guid) → run (guid_at (at + 8)) s ≡ done g

@@ -6,13 +6,14 @@ ghost use Rattle.blob.specs.Reading.{run, done, verdict, values};
 ghost use Rattle.blob.specs.Laid.{laid, flat};
 ghost use Rattle.format.specs.Area.{DEFINITIONS, width};
 ghost use Rattle.format.specs.Table.{header_length, stride};
+ghost use Rattle.format.specs.Kinds.{number};
 ghost use Rattle.format.specs.Definition.{channel_fields, keyword_fields, task_fields, plain_fields, fields_at, name_field, named, definition_at, definitions_at};
 ghost use Rattle.format.specs.Lists.{definition_words};
 ghost use Rattle.definition.specs.Records.{rows, name_place};
 
 use blob::Refusal;
 use format::field::{CHAN_NAME, KEYW_DATA, LEVL_DATA, OPCO_DATA, TASK_DATA};
-use format::kind::{CHAN, KEYW, LEVL, OPCO, TASK};
+use format::kind::Kind;
 use format::list::width;
 use format::{Definition, Guid, Header, Name};
 use name::absent;
@@ -20,16 +21,15 @@ use table::{header_length, stride, table_end};
 use words::guid_at;
 
 // The field of a kind's names; 0 where it has none. (A match, here and in `table`: a constant array is made anew wherever it is read.)
-fn name_field(kind: u32) -> u8
-    requires { kind ≤ 8 }
-    ensures { result ≡ name_field kind }
+fn name_field(kind: Kind) -> u8
+    ensures { result ≡ name_field (number kind) }
 {
     match kind {
-        CHAN => CHAN_NAME,
-        KEYW => KEYW_DATA,
-        LEVL => LEVL_DATA,
-        OPCO => OPCO_DATA,
-        TASK => TASK_DATA,
+        Kind::Chan => CHAN_NAME,
+        Kind::Keyw => KEYW_DATA,
+        Kind::Levl => LEVL_DATA,
+        Kind::Opco => OPCO_DATA,
+        Kind::Task => TASK_DATA,
         _ => 0,
     }
 }
@@ -52,7 +52,7 @@ fn channel(b: &[u8], at: usize) -> Definition
     ensures { run (channel_fields at) b.now ≡ done result }
 {
     Definition {
-        kind: CHAN,
+        kind: Kind::Chan.number(),
         low: blob::word(b, at),
         high: 0,
         message: blob::word(b, at + 12),
@@ -69,7 +69,7 @@ fn keyword(b: &[u8], at: usize) -> Definition
     ensures { run (keyword_fields at) b.now ≡ done result }
 {
     Definition {
-        kind: KEYW,
+        kind: Kind::Keyw.number(),
         low: blob::word(b, at),
         high: blob::word(b, at + 4),
         message: blob::word(b, at + 8),
@@ -86,7 +86,7 @@ fn task(b: &[u8], at: usize) -> Definition
     ensures { run (task_fields at) b.now ≡ done result }
 {
     Definition {
-        kind: TASK,
+        kind: Kind::Task.number(),
         low: blob::word(b, at),
         high: 0,
         message: blob::word(b, at + 4),
@@ -98,12 +98,12 @@ fn task(b: &[u8], at: usize) -> Definition
 }
 
 // LEVL and OPCO: identifier, message, name offset.
-fn plain(b: &[u8], kind: u32, at: usize) -> Definition
+fn plain(b: &[u8], kind: Kind, at: usize) -> Definition
     requires { at + 12 ≤ length b.now }
-    ensures { run (plain_fields kind at) b.now ≡ done result }
+    ensures { run (plain_fields (number kind) at) b.now ≡ done result }
 {
     Definition {
-        kind,
+        kind: kind.number(),
         low: blob::word(b, at),
         high: 0,
         message: blob::word(b, at + 4),
@@ -116,14 +116,14 @@ fn plain(b: &[u8], kind: u32, at: usize) -> Definition
 
 // A record's own fields, by its kind.
 #[tactic(auto, unfolding(format::specs::Definition::fields_at))]
-fn fields_at(b: &[u8], kind: u32, at: usize) -> Definition
-    requires { (kind ≤ 8) × (12 ≤ stride kind) × (at + stride kind ≤ length b.now) }
-    ensures { run (fields_at kind at) b.now ≡ done result }
+fn fields_at(b: &[u8], kind: Kind, at: usize) -> Definition
+    requires { (12 ≤ stride (number kind)) × (at + stride (number kind) ≤ length b.now) }
+    ensures { run (fields_at (number kind) at) b.now ≡ done result }
 {
     match kind {
-        CHAN => channel(b, at),
-        KEYW => keyword(b, at),
-        TASK => task(b, at),
+        Kind::Chan => channel(b, at),
+        Kind::Keyw => keyword(b, at),
+        Kind::Task => task(b, at),
         _ => plain(b, kind, at),
     }
 }
@@ -138,23 +138,23 @@ fn with_name(d: Definition, n: Name) -> Definition
 }
 
 // Where the name offset stands in a kind's record.
-fn name_place(kind: u32) -> usize
-    requires { 12 ≤ stride kind }
-    ensures { (result ≡ name_place kind) × (result + 4 ≤ stride kind) }
+fn name_place(kind: Kind) -> usize
+    requires { 12 ≤ stride (number kind) }
+    ensures { (result ≡ name_place (number kind)) × (result + 4 ≤ stride (number kind)) }
 {
     match kind {
-        CHAN => 4,
-        KEYW => 12,
-        TASK => 24,
+        Kind::Chan => 4,
+        Kind::Keyw => 12,
+        Kind::Task => 24,
         _ => 8,
     }
 }
 
 // Whether n records of a kind stand one after another from a place on, each with its name.
-fn check_records(b: &[u8], kind: u32, start: usize, n: u32) -> Result<(), Refusal>
-    requires kind_bound { (kind ≤ 8) × (12 ≤ stride kind) × (start + stride kind * n ≤ length b.now) }
+fn check_records(b: &[u8], kind: Kind, start: usize, n: u32) -> Result<(), Refusal>
+    requires kind_bound { (12 ≤ stride (number kind)) × (start + stride (number kind) * n ≤ length b.now) }
     requires b_len_bound { length b.now ≤ 16777216 }
-    ensures { result ≡ verdict (run (rows kind (stride kind) n start) b.now) }
+    ensures { result ≡ verdict (run (rows (number kind) (stride (number kind)) n start) b.now) }
 {
     let bytes = stride(kind) as usize;
     let field = name_field(kind);
@@ -167,21 +167,21 @@ fn check_records(b: &[u8], kind: u32, start: usize, n: u32) -> Result<(), Refusa
 }
 
 // Whether the table of definitions at a place is right, whose header has been read.
-pub fn check_definitions(b: &[u8], kind: u32, at: usize, h: Header) -> Result<(), Refusal>
-    requires le_kind { (1 ≤ kind) × (kind ≤ 8) × (12 ≤ stride kind) × (at + header_length kind ≤ length b.now) }
+pub fn check_definitions(b: &[u8], kind: Kind, at: usize, h: Header) -> Result<(), Refusal>
+    requires kind_bound { (12 ≤ stride (number kind)) × (at + header_length (number kind) ≤ length b.now) }
     requires b_len_bound { length b.now ≤ 16777216 }
-    ensures { result ≡ verdict (run (definitions_at kind at h) b.now) }
+    ensures { result ≡ verdict (run (definitions_at (number kind) at h) b.now) }
 {
     table_end(b, kind, at, h)?;
     check_records(b, kind, at + header_length(kind) as usize, h.count)
 }
 
 // The definition whose record stands at a place, and whose name is known to be fine.
-fn definition_of(b: &[u8], kind: u32, at: usize) -> Definition
-    requires kind_bound { (kind ≤ 8) × (12 ≤ stride kind) × (at + stride kind ≤ length b.now) }
+fn definition_of(b: &[u8], kind: Kind, at: usize) -> Definition
+    requires kind_bound { (12 ≤ stride (number kind)) × (at + stride (number kind) ≤ length b.now) }
     requires b_len_bound { length b.now ≤ 16777216 }
-    requires b_value { verdict (run (definition_at kind at) b.now) ≡ Ok tt }
-    ensures { run (definition_at kind at) b.now ≡ done result }
+    requires b_value { verdict (run (definition_at (number kind) at) b.now) ≡ Ok tt }
+    ensures { run (definition_at (number kind) at) b.now ≡ done result }
 {
     let d = fields_at(b, kind, at);
     with_name(d, name::name_of(b, b.len(), name_field(kind), d.offset))
@@ -211,12 +211,12 @@ fn put_definition(area: &mut [u32], to: usize, d: Definition)
 }
 
 // Stores the words of n records that `check_records` found fine.
-fn fill_records(b: &[u8], kind: u32, start: usize, n: u32, area: &mut [u32])
-    requires kind_bound { (kind ≤ 8) × (12 ≤ stride kind) × (start + stride kind * n ≤ length b.now) }
+fn fill_records(b: &[u8], kind: Kind, start: usize, n: u32, area: &mut [u32])
+    requires kind_bound { (12 ≤ stride (number kind)) × (start + stride (number kind) * n ≤ length b.now) }
     requires b_len_bound { length b.now ≤ 16777216 }
-    requires b_value { verdict (run (rows kind (stride kind) n start) b.now) ≡ Ok tt }
+    requires b_value { verdict (run (rows (number kind) (stride (number kind)) n start) b.now) ≡ Ok tt }
     requires n_in_bounds { width DEFINITIONS * n ≤ length area.old }
-    ensures { area.new ≡ laid area.old 0 (flat definition_words (values (run (rows kind (stride kind) n start) b.now))) }
+    ensures { area.new ≡ laid area.old 0 (flat definition_words (values (run (rows (number kind) (stride (number kind)) n start) b.now))) }
 {
     let bytes = stride(kind) as usize;
     for i in 0..n as usize {
@@ -226,12 +226,12 @@ fn fill_records(b: &[u8], kind: u32, start: usize, n: u32, area: &mut [u32])
 }
 
 // Stores the words of a table of definitions that `check_definitions` found fine.
-pub fn fill_definitions(b: &[u8], kind: u32, at: usize, h: Header, area: &mut [u32])
-    requires le_kind { (1 ≤ kind) × (kind ≤ 8) × (12 ≤ stride kind) × (at + header_length kind ≤ length b.now) }
+pub fn fill_definitions(b: &[u8], kind: Kind, at: usize, h: Header, area: &mut [u32])
+    requires kind_bound { (12 ≤ stride (number kind)) × (at + header_length (number kind) ≤ length b.now) }
     requires b_len_bound { length b.now ≤ 16777216 }
-    requires b_value { verdict (run (definitions_at kind at h) b.now) ≡ Ok tt }
+    requires b_value { verdict (run (definitions_at (number kind) at h) b.now) ≡ Ok tt }
     requires count_in_bounds { width DEFINITIONS * h.count ≤ length area.old }
-    ensures { area.new ≡ laid area.old 0 (flat definition_words (values (run (definitions_at kind at h) b.now))) }
+    ensures { area.new ≡ laid area.old 0 (flat definition_words (values (run (definitions_at (number kind) at h) b.now))) }
 {
     fill_records(b, kind, at + header_length(kind) as usize, h.count, area);
 }

@@ -10,7 +10,7 @@ use Rattle.std.proofs.lemmas.Bool.{eqb-false}
 use Rattle.blob.specs.Le.{le}
 use Rattle.blob.specs.Laid.{flat, flat_append}
 use Rattle.blob.specs.declared.Refusal.{Refusal}
-use Rattle.blob.specs.Reading.{Outcome, done, refused, choose, run, many, answer, verdict, values, as_result}
+use Rattle.blob.specs.Reading.{Outcome, done, refused, choose, run, many, verdict, values, as_result}
 use Rattle.format.specs.Table.{MAPS, TTBL, kinds, kind_of}
 use Rattle.format.specs.Definition.{step}
 use Rattle.format.specs.Provider.{Rows, definitions, events, maps, templates, Table, Element, descriptor_at, unknown_at, element_of, element_at, elements_from}

@@ -5,6 +5,7 @@ ghost use Rattle.std.specs.Prelude.{◌≡◌, ◌+◌, ◌*◌, ◌≤◌, min,
 ghost use Rattle.blob.specs.Reading.{run, done, verdict, values, many};
 ghost use Rattle.format.specs.Definition.{step};
 ghost use Rattle.format.specs.Table.{kind_of, header_length};
+ghost use Rattle.format.specs.Kinds.{number, numbered};
 ghost use Rattle.format.specs.Provider.{descriptor_at, unknown_at, events_at, table_at, element_of, elements_from};
 ghost use Rattle.element.specs.Signatures as spec;
 ghost use Rattle.element.specs.Places.{placed};
@@ -13,9 +14,12 @@ ghost use Rattle.format.specs.Steps.Needs.{element_read, table_read};
 
 use blob::Refusal;
 use format::field::{UNKNOWN_ELEMENT_END, UNKNOWN_ELEMENT_HEADER};
-use format::kind::{CHAN, EVNT, KEYW, KINDS, LEVL, MAPS, OPCO, TASK, TTBL};
+use format::kind::Kind;
 use format::list::{AREAS, row};
 use format::{Descriptor, Header, signature};
+
+// The numbers of kinds, and 0, of none.
+pub const NUMBERS: usize = 9;
 
 // Where a provider keeps no table of a kind: no place of a blob.
 pub const NONE: u32 = 4294967295;
@@ -38,24 +42,34 @@ fn named(signature: u32) -> u32
     }
 }
 
-// The kind that a signature names; 0 for none.
+// The kind that a signature names.
 #[tactic(auto, unfolding(format::specs::Table::kind_in))]
-pub fn kind_of(signature: u32) -> u32
-    ensures { (result ≡ kind_of signature) × (result ≤ 8) }
+pub fn kind_of(signature: u32) -> Option<Kind>
+    ensures { numbered result ≡ kind_of signature }
 {
     if signature != named(signature) {
-        return 0;
+        return None;
     }
     match signature {
-        signature::CHAN => CHAN,
-        signature::EVNT => EVNT,
-        signature::KEYW => KEYW,
-        signature::LEVL => LEVL,
-        signature::MAPS => MAPS,
-        signature::OPCO => OPCO,
-        signature::TASK => TASK,
-        signature::TTBL => TTBL,
-        _ => 0,
+        signature::CHAN => Some(Kind::Chan),
+        signature::EVNT => Some(Kind::Evnt),
+        signature::KEYW => Some(Kind::Keyw),
+        signature::LEVL => Some(Kind::Levl),
+        signature::MAPS => Some(Kind::Maps),
+        signature::OPCO => Some(Kind::Opco),
+        signature::TASK => Some(Kind::Task),
+        signature::TTBL => Some(Kind::Ttbl),
+        _ => None,
+    }
+}
+
+// That kind's number; 0 for none.
+fn number_of(signature: u32) -> usize
+    ensures { (result ≡ kind_of signature) × (result ≤ 8) }
+{
+    match kind_of(signature) {
+        Some(kind) => kind.number() as usize,
+        None => 0,
     }
 }
 
@@ -89,19 +103,19 @@ fn check_events(b: &[u8], at: usize, h: Header) -> Result<u32, Refusal>
     requires { (at + 16 ≤ length b.now) × (length b.now ≤ 16777216) }
     ensures { result ≡ table_read (run (events_at at h) b.now) }
 {
-    table::table_end(b, EVNT, at, h)?;
+    table::table_end(b, Kind::Evnt, at, h)?;
     Ok(0)
 }
 
 // Whether the table of a kind is fine whose header has been read, and how many entries its entries have.
-fn check_table(b: &[u8], kind: u32, at: usize, h: Header) -> Result<u32, Refusal>
-    requires { (1 ≤ kind) × (kind ≤ 8) × (at + header_length kind ≤ length b.now) × (length b.now ≤ 16777216) }
-    ensures { result ≡ table_read (run (table_at kind at h) b.now) }
+fn check_table(b: &[u8], kind: Kind, at: usize, h: Header) -> Result<u32, Refusal>
+    requires { (at + header_length (number kind) ≤ length b.now) × (length b.now ≤ 16777216) }
+    ensures { result ≡ table_read (run (table_at (number kind) at h) b.now) }
 {
     match kind {
-        EVNT => check_events(b, at, h),
-        MAPS => map::check(b, at, h),
-        TTBL => template::check(b, at, h),
+        Kind::Evnt => check_events(b, at, h),
+        Kind::Maps => map::check(b, at, h),
+        Kind::Ttbl => template::check(b, at, h),
         _ => {
             definition::check_definitions(b, kind, at, h)?;
             Ok(0)
@@ -110,9 +124,9 @@ fn check_table(b: &[u8], kind: u32, at: usize, h: Header) -> Result<u32, Refusal
 }
 
 // Whether the element of a known kind at a place is fine, and how many entries its entries have.
-fn check_element(b: &[u8], kind: u32, at: usize) -> Result<u32, Refusal>
-    requires { (1 ≤ kind) × (kind ≤ 8) × (length b.now ≤ 16777216) }
-    ensures { result ≡ element_read (run (element_of kind at) b.now) }
+fn check_element(b: &[u8], kind: Kind, at: usize) -> Result<u32, Refusal>
+    requires { length b.now ≤ 16777216 }
+    ensures { result ≡ element_read (run (element_of (number kind) at) b.now) }
 {
     let h = table::header_at(b, kind, at)?;
     check_table(b, kind, at, h)
@@ -137,8 +151,8 @@ pub fn descriptor_of(b: &[u8], at: usize) -> Descriptor
 #[derive(Clone, Copy)]
 pub struct Elements {
     pub unknown: u32,
-    pub entries: [u32; KINDS],
-    pub places: [u32; KINDS],
+    pub entries: [u32; NUMBERS],
+    pub places: [u32; NUMBERS],
 }
 
 // Whether the elements of n descriptors, themselves fine, are fine, in descriptor order.
@@ -148,17 +162,20 @@ fn check_elements(b: &[u8], start: usize, n: u32) -> Result<Elements, Refusal>
     ensures { result ≡ elements_read (run (elements_from n start) b.now) }
 {
     let mut unknown = 0;
-    let mut entries = [0; KINDS];
-    let mut places = [NONE; KINDS];
+    let mut entries = [0; NUMBERS];
+    let mut places = [NONE; NUMBERS];
     for i in 0..n as usize {
         let d = descriptor_of(b, start + 8 * i);
-        let kind = kind_of(d.signature);
-        if kind == 0 {
-            check_unknown(b, d.offset as usize)?;
-            unknown += 1;
-        } else {
-            entries[kind as usize] = check_element(b, kind, d.offset as usize)?;
-            places[kind as usize] = d.offset;
+        match kind_of(d.signature) {
+            Some(kind) => {
+                let i = kind.number() as usize;
+                entries[i] = check_element(b, kind, d.offset as usize)?;
+                places[i] = d.offset;
+            }
+            None => {
+                check_unknown(b, d.offset as usize)?;
+                unknown += 1;
+            }
         }
     }
     Ok(Elements {
@@ -176,7 +193,7 @@ pub fn place_tables(b: &[u8], start: usize, n: u32, places: &mut [u32])
 {
     for i in 0..n as usize {
         let d = descriptor_of(b, start + 8 * i);
-        let kind = kind_of(d.signature) as usize;
+        let kind = number_of(d.signature);
         places[kind] = d.offset;
     }
 }
@@ -192,16 +209,16 @@ pub fn check(b: &[u8], start: usize, n: u32) -> Result<[u32; AREAS], Refusal>
     let entries = e.entries;
     let mut tables = 0;
     let mut counts = [0; AREAS];
-    for kind in CHAN..KINDS as u32 {
-        let place = places[kind as usize];
+    for kind in Kind::ALL {
+        let place = places[kind.number() as usize];
         if place != NONE {
             tables += 1;
             counts = counts::grow(counts, kind, blob::word(b, place as usize + 8));
         }
     }
     counts[row::TABLES] = tables;
-    counts[row::ENTRIES] = entries[MAPS as usize];
-    counts[row::ITEMS] = entries[TTBL as usize];
+    counts[row::ENTRIES] = entries[Kind::Maps.number() as usize];
+    counts[row::ITEMS] = entries[Kind::Ttbl.number() as usize];
     counts[row::UNKNOWN] = bounds::sum(0, e.unknown);
     Ok(counts)
 }

@@ -1,6 +1,6 @@
 -- What a list has of the table of a kind that is kept: its rows, or nothing.
 use Prim.{tt}
-use Rattle.std.specs.Prelude.{ℕ, ◌+◌, ◌-◌, ◌≤◌, ◌<◌, refl, Bool, true, List, [], ◌∷◌, ◌++◌, ◌⊎◌, length, eqb, Ok}
+use Rattle.std.specs.Prelude.{ℕ, ◌+◌, ◌-◌, ◌≤◌, ◌<◌, refl, Bool, true, List, [], ◌∷◌, ◌++◌, ◌⊎◌, length, get_or, eqb, Ok}
 use Rattle.std.proofs.Math.Path.{◌≡◌}
 use Rattle.std.proofs.Common.{ap, ap₂, sym, ◌∙◌, subst, inl, inr, ⊎_elim, arith, ne_eqb, eqb-true}
 use Rattle.std.proofs.Math.Bool.{false}
@@ -14,13 +14,18 @@ use Rattle.blob.specs.Laid.{flat, laid}
 use Rattle.format.specs.Area as area
 use Rattle.format.specs.Area.{TABLES, DEFINITIONS, EVENTS, ENTRIES, TEMPLATES, ITEMS, place}
 use Rattle.format.specs.Table.{EVNT, MAPS, TTBL, header_length}
+use Rattle.format.specs.Kinds.{number}
 use Rattle.format.specs.Provider.{Table, Element, table_at, elements_from}
 use Rattle.format.specs.Lists.{last_of, definitions_in, events_in, maps_in, templates_in, map_list, item_list}
 use Rattle.format.specs.Steps.Needs.{total, place_of}
 use Rattle.format.specs.Steps.Parts.{Counted, Room, TablesRoom, TablesStored, behind, behind_all, table_part, table_parts}
+use Rattle.format.proofs.Theorems.Kinds.{one_of-eight}
 use Rattle.format.proofs.Theorems.Grows.{set_same, behind_all-append}
 use Rattle.format.proofs.Theorems.Stored.{Left, left-room, left-more, table_parts_append, few-before}
 use Rattle.format.specs.declared.Header.{Header}
+use Rattle.format.specs.declared.kind.Kind.{Kind}
+use Rattle.element.specs.Places as places
+use Rattle.element.specs.Places.{placed, kind-place}
 use Rattle.element.specs.Kinds.{kept_here, kept-nowhere, kept_from, kept_more}
 use Rattle.fillers.specs.Rows.{only, holds_definitions, has_entries, Shape, of-events, of-maps, of-templates, of-definitions, shape}
 
@@ -104,16 +109,27 @@ module _ (s : List ℕ) (n at k : ℕ) (v : verdict (run (elements_from n at) s)
       let t = kept_here s n at k v place p h in
       ap₂ (λ o g. run (table_at k o g) s) (sym t.2) (ap (headed s) (sym t.2) ∙ sym t.3.words) ∙ t.3.found
 
-  pub stands : Stands s k place
+  stands : Stands s k place
   stands h = let t = kept_here s n at k v place p h in (rw t.2 at t.3.fits, ap verdict (found h))
 
-  pub kept-at : length s ≤ 16777216 → last_of k (values (run (elements_from n at) s)) ≡ kept_at s k place
+  kept-at : length s ≤ 16777216 → last_of k (values (run (elements_from n at) s)) ≡ kept_at s k place
   kept-at l = go (eqb place 4294967295) refl
     where
       go : (b : Bool) → eqb place 4294967295 ≡ b
           → last_of k (values (run (elements_from n at) s)) ≡ choose b [] (only (run (table_at k place (headed s place)) s))
       go true e = kept-nowhere s n at k v place p l (eqb-true _ _ e)
       go false e = let h = eqb-false place 4294967295 e in (kept_here s n at k v place p h).1 ∙ sym (ap only (found h))
+
+-- where a kind's number finds its place
+module _ (s : List ℕ) (n at : ℕ) (v : verdict (run (elements_from n at) s) ≡ Ok tt) (ps : List ℕ) (p : ps ≡ placed places.nowhere (values (run (elements_from n at) s))) (k : Kind) (i : ℕ) (e : i ≡ number k) where
+  noted : get_or ps i 0 ≡ place_of (last_of (number k) (values (run (elements_from n at) s)))
+  noted = let o = one_of-eight k in ap (λ j. get_or ps j 0) e ∙ kind-place s n at ps p o.0 o.1
+
+  pub kind-stands : Stands s (number k) (get_or ps i 0)
+  kind-stands = stands s n at (number k) v _ noted
+
+  pub kind-kept : length s ≤ 16777216 → (j : ℕ) → number k ≡ j → last_of j (values (run (elements_from n at) s)) ≡ kept_at s (number k) (get_or ps i 0)
+  kind-kept l j q = ap (λ j. last_of j (values (run (elements_from n at) s))) (sym q) ∙ kept-at s n at (number k) v _ noted l
 
 -- a list has something of it: it is somewhere, and its kind has entries in the list
 abbrev pub has_any : ℕ → ℕ → ℕ → Bool

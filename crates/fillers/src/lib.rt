@@ -6,6 +6,7 @@ ghost use Rattle.std.specs.Prelude.{◌≡◌, true, ◌+◌, ◌*◌, ◌≤◌
 ghost use Rattle.blob.specs.Reading.{run, number, many, verdict, values, choose};
 ghost use Rattle.blob.specs.Laid.{laid, flat};
 ghost use Rattle.format.specs.Table.{header_length, kind_of};
+ghost use Rattle.format.specs.Kinds as kinds;
 ghost use Rattle.format.specs.Definition.{step};
 ghost use Rattle.format.specs.Provider.{descriptor_at, table_at, elements_from};
 ghost use Rattle.format.specs.Lists.{descriptor_words, unknown2_words, kept, unknowns, unknown_words};
@@ -16,8 +17,8 @@ ghost use Rattle.format.specs.Area.{width};
 ghost use Rattle.fillers.specs.Kinds.{headed, kept_at, Stands, has_any};
 ghost use Rattle.fillers.specs.Rows.{only, holds_definitions, has_entries, trailing_of};
 
-use element::NONE;
-use format::kind::{CHAN, EVNT, KINDS, MAPS, TTBL};
+use element::{NONE, NUMBERS};
+use format::kind::Kind;
 use format::list::{AREAS, row, width};
 use format::{Descriptor, Header, list};
 
@@ -52,28 +53,26 @@ pub fn fill_unknown2(b: &[u8], start: usize, n: u32, area: &mut [u32]) -> usize
 }
 
 // Whether tables of a kind have definitions.
-fn holds_definitions(kind: u32) -> bool
-    ensures { result ≡ holds_definitions kind }
+fn holds_definitions(kind: Kind) -> bool
+    ensures { result ≡ holds_definitions (kinds.number kind) }
 {
     match kind {
-        EVNT => false,
-        MAPS => false,
-        TTBL => false,
+        Kind::Evnt | Kind::Maps | Kind::Ttbl => false,
         _ => true,
     }
 }
 
 // Whether tables of a kind have entries in a list.
-fn has_entries(list: u32, kind: u32) -> bool
-    ensures { result ≡ has_entries list kind }
+fn has_entries(list: u32, kind: Kind) -> bool
+    ensures { result ≡ has_entries list (kinds.number kind) }
 {
     match list {
         list::TABLES => true,
         list::DEFINITIONS => holds_definitions(kind),
-        list::EVENTS => kind == EVNT,
-        list::MAPS => kind == MAPS,
-        list::ENTRIES => kind == MAPS,
-        _ => kind == TTBL,
+        list::EVENTS => matches!(kind, Kind::Evnt),
+        list::MAPS => matches!(kind, Kind::Maps),
+        list::ENTRIES => matches!(kind, Kind::Maps),
+        _ => matches!(kind, Kind::Ttbl),
     }
 }
 
@@ -86,20 +85,20 @@ pub struct Trailing {
 }
 
 // The trailing part of a table of a kind that is known to be fine.
-fn trailing_of(b: &[u8], kind: u32, at: usize, h: Header) -> Trailing
-    requires le_kind { (1 ≤ kind) × (kind ≤ 8) × (at + header_length kind ≤ length b.now) × (length b.now ≤ 16777216) }
-    requires b_value { verdict (run (table_at kind at h) b.now) ≡ Ok tt }
-    ensures { result ≡ trailing_of (run (table_at kind at h) b.now) }
+fn trailing_of(b: &[u8], kind: Kind, at: usize, h: Header) -> Trailing
+    requires header_in_bounds { (at + header_length (kinds.number kind) ≤ length b.now) × (length b.now ≤ 16777216) }
+    requires b_value { verdict (run (table_at (kinds.number kind) at h) b.now) ≡ Ok tt }
+    ensures { result ≡ trailing_of (run (table_at (kinds.number kind) at h) b.now) }
 {
-    if kind != EVNT {
+    let Kind::Evnt = kind else {
         return Trailing {
             extra: 0,
             start: 0,
             length: 0,
         };
-    }
+    };
     let start = at + 16 + 48 * (h.count as usize);
-    let end = table::table_end(b, EVNT, at, h).unwrap();
+    let end = table::table_end(b, Kind::Evnt, at, h).unwrap();
     Trailing {
         extra: blob::word(b, at + 12),
         start: start as u32,
@@ -110,23 +109,31 @@ fn trailing_of(b: &[u8], kind: u32, at: usize, h: Header) -> Trailing
 // Stores a table's words, list 4's; so many entries were written before in each list, and its own are counted with them.
 fn put_table(
     b: &[u8],
-    kind: u32,
+    kind: Kind,
     at: usize,
     h: Header,
     number: u32,
     before: &mut [u32; AREAS],
     area: &mut [u32],
 ) -> usize
-    requires le_kind { (1 ≤ kind) × (kind ≤ 8) × (at + header_length kind ≤ length b.now) × (length b.now ≤ 16777216) }
-    requires b_value { verdict (run (table_at kind at h) b.now) ≡ Ok tt }
-    requires tables_room { parts.TablesRoom rows.TABLES number before.old (only (run (table_at kind at h) b.now)) area.old }
-    ensures { parts.TablesStored rows.TABLES number before.old (only (run (table_at kind at h) b.now)) area.old result before.new area.new }
+    requires header_in_bounds { (at + header_length (kinds.number kind) ≤ length b.now) × (length b.now ≤ 16777216) }
+    requires b_value { verdict (run (table_at (kinds.number kind) at h) b.now) ≡ Ok tt }
+    requires tables_room { parts.TablesRoom rows.TABLES number before.old (only (run (table_at (kinds.number kind) at h) b.now)) area.old }
+    ensures { parts.TablesStored rows.TABLES number before.old (only (run (table_at (kinds.number kind) at h) b.now)) area.old result before.new area.new }
 {
     let t = trailing_of(b, kind, at, h);
     let i = counts::row_of(kind);
     let first = before[i];
     let entry = [
-        number, kind, at as u32, h.size, t.extra, first, h.count, t.start, t.length,
+        number,
+        kind.number(),
+        at as u32,
+        h.size,
+        t.extra,
+        first,
+        h.count,
+        t.start,
+        t.length,
     ];
     words::put(area, 0, &entry);
     before[i] = first + h.count;
@@ -137,18 +144,18 @@ fn put_table(
 fn put_rows(
     b: &[u8],
     list: u32,
-    kind: u32,
+    kind: Kind,
     at: usize,
     h: Header,
     number: u32,
     before: &mut [u32; AREAS],
     area: &mut [u32],
 ) -> usize
-    requires le_kind { (1 ≤ kind) × (kind ≤ 8) × (at + header_length kind ≤ length b.now) × (length b.now ≤ 16777216) }
-    requires b_value { verdict (run (table_at kind at h) b.now) ≡ Ok tt }
-    requires kind_value { has_entries list kind ≡ true }
-    requires tables_room { parts.TablesRoom list number before.old (only (run (table_at kind at h) b.now)) area.old }
-    ensures { parts.TablesStored list number before.old (only (run (table_at kind at h) b.now)) area.old result before.new area.new }
+    requires header_in_bounds { (at + header_length (kinds.number kind) ≤ length b.now) × (length b.now ≤ 16777216) }
+    requires b_value { verdict (run (table_at (kinds.number kind) at h) b.now) ≡ Ok tt }
+    requires kind_value { has_entries list (kinds.number kind) ≡ true }
+    requires tables_room { parts.TablesRoom list number before.old (only (run (table_at (kinds.number kind) at h) b.now)) area.old }
+    ensures { parts.TablesStored list number before.old (only (run (table_at (kinds.number kind) at h) b.now)) area.old result before.new area.new }
 {
     let count = h.count as usize;
     match list {
@@ -190,8 +197,8 @@ fn header_of(b: &[u8], at: usize) -> Header
 }
 
 // Whether a list has anything of the table of a kind that is kept at a place.
-fn has_any(list: u32, kind: u32, place: u32) -> bool
-    ensures { result ≡ has_any list kind place }
+fn has_any(list: u32, kind: Kind, place: u32) -> bool
+    ensures { result ≡ has_any list (kinds.number kind) place }
 {
     if place == NONE {
         return false;
@@ -203,15 +210,15 @@ fn has_any(list: u32, kind: u32, place: u32) -> bool
 fn put_kind(
     b: &[u8],
     list: u32,
-    kind: u32,
+    kind: Kind,
     place: u32,
     number: u32,
     before: &mut [u32; AREAS],
     area: &mut [u32],
 ) -> usize
-    requires b_len_bound { (length b.now ≤ 16777216) × (1 ≤ kind) × (kind ≤ 8) × Stands b.now kind place }
-    requires tables_room { parts.TablesRoom list number before.old (kept_at b.now kind place) area.old }
-    ensures { parts.TablesStored list number before.old (kept_at b.now kind place) area.old result before.new area.new }
+    requires b_len_bound { (length b.now ≤ 16777216) × Stands b.now (kinds.number kind) place }
+    requires tables_room { parts.TablesRoom list number before.old (kept_at b.now (kinds.number kind) place) area.old }
+    ensures { parts.TablesStored list number before.old (kept_at b.now (kinds.number kind) place) area.old result before.new area.new }
 {
     if has_any(list, kind, place) {
         let at = place as usize;
@@ -235,11 +242,11 @@ pub fn fill_tables(
     requires tables_room { parts.TablesRoom list number before.old (kept (values (run (elements_from n start) b.now))) area.old }
     ensures { parts.TablesStored list number before.old (kept (values (run (elements_from n start) b.now))) area.old result before.new area.new }
 {
-    let mut places = [NONE; KINDS];
+    let mut places = [NONE; NUMBERS];
     element::place_tables(b, start, n, &mut places);
     let mut to = 0;
-    for kind in CHAN..KINDS as u32 {
-        let place = places[kind as usize];
+    for kind in Kind::ALL {
+        let place = places[kind.number() as usize];
         to += put_kind(b, list, kind, place, number, before, &mut area[to..]);
     }
     to
@@ -251,13 +258,15 @@ fn put_unknown(b: &[u8], d: Descriptor, number: u32, area: &mut [u32], to: usize
     ensures value { result ≡ choose (eqb (kind_of d.signature) 0) (to + width rows.UNKNOWN) to }
     ensures area_after { area.new ≡ laid area.old to (words_of b.now number d) }
 {
-    if element::kind_of(d.signature) == 0 {
-        let size = blob::word(b, d.offset as usize + 4);
-        let entry = [number, d.signature, d.offset, size];
-        words::put(area, to, &entry);
-        return to + width::UNKNOWN;
+    match element::kind_of(d.signature) {
+        Some(_) => to,
+        None => {
+            let size = blob::word(b, d.offset as usize + 4);
+            let entry = [number, d.signature, d.offset, size];
+            words::put(area, to, &entry);
+            to + width::UNKNOWN
+        }
     }
-    to
 }
 
 // Stores the words of the elements of no known kind.

@@ -7,6 +7,7 @@ pub mod Coded
 pub mod Codes
 pub mod Determined
 pub mod Said
+pub mod Kinds
 pub mod Ends
 pub mod Until
 pub mod Described

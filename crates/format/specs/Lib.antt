@@ -25,5 +25,6 @@ pub mod Call
 pub mod Rests
 -- What the building blocks speak of besides, on the way there.
 pub mod Steps
+pub mod Kinds
 -- What a theorem supposes.
 pub mod Theorems

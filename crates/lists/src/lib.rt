@@ -6,6 +6,7 @@ ghost use Rattle.std.specs.Prelude.{◌≡◌, true, ◌&&◌, [], ◌∷◌, �
 ghost use Rattle.format.specs.Area as area;
 ghost use Rattle.format.specs.Answer as answer;
 ghost use Rattle.format.specs.Table.{kind_list};
+ghost use Rattle.format.specs.Kinds as kinds;
 ghost use Rattle.format.specs.Lookup as right;
 ghost use Rattle.format.specs.Owner.{events_owned};
 ghost use Rattle.counts.specs.Short.{widths};
@@ -16,7 +17,7 @@ use blob::Refusal;
 use format::entry::{
     TABLE_COUNT, TABLE_FIRST, TABLE_KIND, TABLE_PROVIDER, TEMPLATE_OFFSET, TEMPLATE_PROVIDER,
 };
-use format::kind;
+use format::kind::Kind;
 use format::list::{AREAS, MOST, row, width};
 
 // The lists of a reading, as they are lent.
@@ -167,12 +168,9 @@ fn in_lists(c: [u32; AREAS], provider: u32, kind: u32, first: u32, count: u32) -
     if c[row::PROVIDERS] <= provider {
         return false;
     }
-    if kind < kind::CHAN {
+    let Some(kind) = Kind::of(kind) else {
         return false;
-    }
-    if kind::TTBL < kind {
-        return false;
-    }
+    };
     let row = counts::row_of(kind);
     (first as u64) + (count as u64) <= (c[row] as u64)
 }
@@ -231,7 +229,7 @@ fn table_owns(words: &[u32], at: usize, templates: Run) -> bool
     requires first_value { (templates.first ≡ 0) × spec.range_within (take (area.width area.TABLES) (drop at words.now)) templates }
     ensures { result ≡ right.table_owns (spec.entries (area.width area.TEMPLATES) templates words.now) (take (area.width area.TABLES) (drop at words.now)) }
 {
-    if table_word(words, at, TABLE_KIND) != kind::TTBL {
+    if table_word(words, at, TABLE_KIND) != Kind::Ttbl.number() {
         return true;
     }
     let provider = table_word(words, at, TABLE_PROVIDER);
@@ -261,14 +259,13 @@ impl<'a> Fitted<'a> {
     }
 
     // The entries that a provider's first table of a kind has in the kind's list; none where it has no such table.
-    pub fn owned(&self, provider: u32, kind: u32) -> Run
-        requires { (1 ≤ kind) × (kind ≤ 8) }
-        ensures { result ≡ spec.owned self.now.lists.words.now self.now.lists.capacities self.now.lists.counts provider kind }
+    pub fn owned(&self, provider: u32, kind: Kind) -> Run
+        ensures { result ≡ spec.owned self.now.lists.words.now self.now.lists.capacities self.now.lists.counts provider (kinds.number kind) }
     {
         let words = self.lists.words;
         let start = counts::area_at(self.lists.capacities, counts::row_of(kind));
         let tables = self.lists.run_of(row::TABLES);
-        let key = [provider, kind];
+        let key = [provider, kind.number()];
         let Some(n) = find(words, tables, row::TABLES, TABLE_PROVIDER, &key) else {
             return Run {
                 start,
@@ -304,7 +301,7 @@ fn take_table(words: &[u32], at: usize, seen: &mut [bool; 65536], owners: &mut [
     requires bounded { owner.Bounded (take (area.width area.TABLES) (drop at words.now)) }
     ensures { owner.TableTaken owners.old seen.old (take (area.width area.TABLES) (drop at words.now)) owners.new seen.new result }
 {
-    if table_word(words, at, TABLE_KIND) != kind::EVNT {
+    if table_word(words, at, TABLE_KIND) != Kind::Evnt.number() {
         return true;
     }
     let provider = table_word(words, at, TABLE_PROVIDER);

@@ -1,5 +1,5 @@
 -- What a reading of a table's header finds, way by way.
-use Rattle.std.specs.Prelude.{ℕ, zero, suc, ◌+◌, ◌*◌, ◌≤◌, ◌<◌, ◌≡◌, refl, List, eqb}
+use Rattle.std.specs.Prelude.{ℕ, zero, suc, ◌+◌, ◌*◌, ◌≤◌, ◌<◌, ◌≡◌, List, eqb}
 use Rattle.std.proofs.Common.{mul-le-mul}
 use native.Mathlib.Omega.{arith}
 use Rattle.std.proofs.Math.ListN.{length}
@@ -13,7 +13,7 @@ use Rattle.format.specs.Refuse.{offset_out, truncated, wrong_signature, size_out
 use Rattle.format.specs.Region.{bounded}
 use Rattle.blob.specs.declared.Refusal.{Refusal}
 use Rattle.format.specs.declared.Header.{Header}
-use Rattle.format.specs.Table.{CHAN, EVNT, KEYW, LEVL, MAPS, OPCO, TASK, TTBL, signature, header_length, stride, header_at, table_end}
+use Rattle.format.specs.Table.{signature, header_length, stride, header_at, table_end}
 
 -- what holds of nine numbers holds of each kind's
 pub of-kinds : (P : ℕ → Type 0) → P 0 → P 1 → P 2 → P 3 → P 4 → P 5 → P 6 → P 7 → P 8 → (k : ℕ) → k ≤ 8 → P k
@@ -32,22 +32,6 @@ of-kinds P a b c d e f g h i (suc (suc (suc (suc (suc (suc (suc (suc (suc k)))))
 pub header-bytes : (k : ℕ) → 1 ≤ k → k ≤ 8 → (12 ≤ header_length k) × (header_length k ≤ 16)
 header-bytes k h g =
     of-kinds (λ k. 1 ≤ k → (12 ≤ header_length k) × (header_length k ≤ 16)) (λ h. absurd (omega arith)) (λ h. omega arith) (λ h. omega arith) (λ h. omega arith) (λ h. omega arith) (λ h. omega arith) (λ h. omega arith) (λ h. omega arith) (λ h. omega arith) k g h
-
--- what those have that have nothing of their own
-abbrev pub no : ℕ → ℕ → Type 0
-no k n = k ≡ n → ⊥
-
-pub no-signature : (k : ℕ) → k ≤ 8 → no k CHAN → no k EVNT → no k KEYW → no k LEVL → no k MAPS → no k OPCO → no k TASK → no k TTBL → signature k ≡ 0
-no-signature =
-    of-kinds (λ k. no k CHAN → no k EVNT → no k KEYW → no k LEVL → no k MAPS → no k OPCO → no k TASK → no k TTBL → signature k ≡ 0) (λ a b c d e f g h. refl) (λ a b c d e f g h. absurd (a refl)) (λ a b c d e f g h. absurd (b refl)) (λ a b c d e f g h. absurd (c refl)) (λ a b c d e f g h. absurd (d refl)) (λ a b c d e f g h. absurd (e refl)) (λ a b c d e f g h. absurd (f refl)) (λ a b c d e f g h. absurd (g refl)) (λ a b c d e f g h. absurd (h refl))
-
-pub short-header : (k : ℕ) → k ≤ 8 → 1 ≤ k → no k EVNT → no k MAPS → header_length k ≡ 12
-short-header =
-    of-kinds (λ k. 1 ≤ k → no k EVNT → no k MAPS → header_length k ≡ 12) (λ h a b. absurd (omega arith)) (λ h a b. refl) (λ h a b. absurd (a refl)) (λ h a b. refl) (λ h a b. refl) (λ h a b. absurd (b refl)) (λ h a b. refl) (λ h a b. refl) (λ h a b. refl)
-
-pub no-stride : (k : ℕ) → k ≤ 8 → no k CHAN → no k EVNT → no k KEYW → no k LEVL → no k OPCO → no k TASK → stride k ≡ 0
-no-stride =
-    of-kinds (λ k. no k CHAN → no k EVNT → no k KEYW → no k LEVL → no k OPCO → no k TASK → stride k ≡ 0) (λ a b c d e f. refl) (λ a b c d e f. absurd (a refl)) (λ a b c d e f. absurd (b refl)) (λ a b c d e f. absurd (c refl)) (λ a b c d e f. absurd (d refl)) (λ a b c d e f. refl) (λ a b c d e f. absurd (e refl)) (λ a b c d e f. absurd (f refl)) (λ a b c d e f. refl)
 
 module _ (k at : ℕ) (s : List ℕ) where
   pub header-past : length s < at → run (header_at k at) s ≡ refused ((offset_out (table_offset k) at).told (length s))

@@ -4,79 +4,74 @@
 ghost use Rattle.std.specs.Prelude.{◌≡◌, ◌+◌, ◌*◌, ◌≤◌, length};
 ghost use Rattle.blob.specs.Reading.{run};
 ghost use Rattle.format.specs.Table as spec;
+ghost use Rattle.format.specs.Kinds.{number};
 ghost use Rattle.format.specs.Region.{end_read};
 
 use blob::Refusal;
 use format::field::{TABLE_ARRAY, TABLE_HEADER, TABLE_OFFSET, TABLE_SIZE};
-use format::kind::{CHAN, EVNT, KEYW, LEVL, MAPS, OPCO, TASK, TTBL};
+use format::kind::Kind;
 use format::{Header, signature};
 
-// The signature of a kind; 0 where it has none.
-fn signature(kind: u32) -> u32
-    requires { kind ≤ 8 }
-    ensures { result ≡ spec.signature kind }
+// The signature of a kind.
+fn signature(kind: Kind) -> u32
+    ensures { result ≡ spec.signature (number kind) }
 {
     match kind {
-        CHAN => signature::CHAN,
-        EVNT => signature::EVNT,
-        KEYW => signature::KEYW,
-        LEVL => signature::LEVL,
-        MAPS => signature::MAPS,
-        OPCO => signature::OPCO,
-        TASK => signature::TASK,
-        TTBL => signature::TTBL,
-        _ => 0,
+        Kind::Chan => signature::CHAN,
+        Kind::Evnt => signature::EVNT,
+        Kind::Keyw => signature::KEYW,
+        Kind::Levl => signature::LEVL,
+        Kind::Maps => signature::MAPS,
+        Kind::Opco => signature::OPCO,
+        Kind::Task => signature::TASK,
+        Kind::Ttbl => signature::TTBL,
     }
 }
 
 // The bytes before a kind's first record.
-pub fn header_length(kind: u32) -> u32
-    requires { (1 ≤ kind) × (kind ≤ 8) }
-    ensures { (result ≡ spec.header_length kind) × (12 ≤ result) × (result ≤ 16) }
+pub fn header_length(kind: Kind) -> u32
+    ensures { (result ≡ spec.header_length (number kind)) × (12 ≤ result) × (result ≤ 16) }
 {
     match kind {
-        EVNT => 16,
-        MAPS => 16,
+        Kind::Evnt => 16,
+        Kind::Maps => 16,
         _ => 12,
     }
 }
 
 // The bytes of a kind's record; 0 where it has none.
-pub fn stride(kind: u32) -> u32
-    requires { kind ≤ 8 }
-    ensures { (result ≡ spec.stride kind) × (result ≤ 48) }
+pub fn stride(kind: Kind) -> u32
+    ensures { (result ≡ spec.stride (number kind)) × (result ≤ 48) }
 {
     match kind {
-        CHAN => 16,
-        EVNT => 48,
-        KEYW => 16,
-        LEVL => 12,
-        OPCO => 12,
-        TASK => 28,
+        Kind::Chan => 16,
+        Kind::Evnt => 48,
+        Kind::Keyw => 16,
+        Kind::Levl => 12,
+        Kind::Opco => 12,
+        Kind::Task => 28,
         _ => 0,
     }
 }
 
 // The bytes of so many records of a kind.
-fn records_length(kind: u32, count: u32) -> usize
-    requires { kind ≤ 8 }
-    ensures { (result ≡ spec.stride kind * count) × (result ≤ 206158430208) }
+fn records_length(kind: Kind, count: u32) -> usize
+    ensures { (result ≡ spec.stride (number kind) * count) × (result ≤ 206158430208) }
 {
     (stride(kind) as usize) * (count as usize)
 }
 
 // The field code of a kind's table.
-fn field(first: u8, kind: u32) -> u8
-    requires { (first ≤ 26) × (kind ≤ 8) }
-    ensures { result ≡ first + 6 * kind }
+fn field(first: u8, kind: Kind) -> u8
+    requires { first ≤ 26 }
+    ensures { result ≡ first + 6 * number kind }
 {
-    first + 6 * (kind as u8)
+    first + 6 * (kind.number() as u8)
 }
 
 // The header of the table of a kind at a place.
-pub fn header_at(b: &[u8], kind: u32, at: usize) -> Result<Header, Refusal>
-    requires { (1 ≤ kind) × (kind ≤ 8) }
-    ensures { result ≡ spec.header_read (run (spec.header_at kind at) b.now) }
+pub fn header_at(b: &[u8], kind: Kind, at: usize) -> Result<Header, Refusal>
+    ensures { result ≡ spec.header_read (run (spec.header_at (number kind) at) b.now) }
 {
     if b.len() < at {
         return Err(bounds::offset_out(b.len(), field(TABLE_OFFSET, kind), at));
@@ -97,10 +92,10 @@ pub fn header_at(b: &[u8], kind: u32, at: usize) -> Result<Header, Refusal>
 }
 
 // Where a table of records ends whose header has been read.
-pub fn table_end(b: &[u8], kind: u32, at: usize, h: Header) -> Result<usize, Refusal>
-    requires le_kind { (1 ≤ kind) × (kind ≤ 8) × (at + spec.header_length kind ≤ length b.now) }
+pub fn table_end(b: &[u8], kind: Kind, at: usize, h: Header) -> Result<usize, Refusal>
+    requires header_in_bounds { at + spec.header_length (number kind) ≤ length b.now }
     requires b_len_bound { length b.now ≤ 16777216 }
-    ensures { result ≡ end_read (λ e. e) (run (spec.table_end kind at h) b.now) }
+    ensures { result ≡ end_read (λ e. e) (run (spec.table_end (number kind) at h) b.now) }
 {
     let least = header_length(kind);
     let start = at + least as usize;

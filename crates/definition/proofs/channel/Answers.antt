@@ -7,4 +7,4 @@ pub returns : goal.returns
 unfolding channel_fields run
 returns c =
     simp run-number
-    (rw (c.none.ensures, c.word-4.ensures, c.absent.ensures, c.word-3.ensures, c.word-2.ensures, c.word.ensures))
+    (rw (c.number.ensures.0, c.none.ensures, c.word-4.ensures, c.absent.ensures, c.word-3.ensures, c.word-2.ensures, c.word.ensures))

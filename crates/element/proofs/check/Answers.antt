@@ -4,14 +4,15 @@ use Prim.Native.Nat.{◌+◌, ◌-◌, ◌≤◌, ◌<◌}
 use mathlib.Core.Path.{◌≡◌, ap, sym, ◌∙◌, subst}
 use native.Mathlib.Omega.{arith}
 use borrow.Author.Rules.{rules}
-use lib.ListN.{length}
+use lib.ListN.{get_or, length}
 use Rattle.blob.specs.Reading.{run, values}
 use Rattle.format.specs.Area.{none}
-use Rattle.format.specs.Table.{MAPS, TTBL}
+use Rattle.format.specs.Table.{MAPS, TTBL, kind_list}
 use Rattle.format.specs.Provider.{elements_from}
 use Rattle.format.specs.Lists.{kept}
 use Rattle.format.specs.Answer.{capped}
-use Rattle.format.specs.Steps.Needs.{modest}
+use Rattle.format.specs.Steps.Needs.{modest, grown}
+use Rattle.format.proofs.Theorems.Kinds.{in_order}
 use Rattle.blob.proofs.Laws.{handed_on, fine-done}
 use native.Mathlib.Nat.{zero-add}
 use Rattle.counts.specs.Short.{modest-set}
@@ -37,26 +38,33 @@ returns c =
     let o = run (elements_from c.args.n c.args.start) c.args.b.now in
     let m = c.loop-kind in
     let e = is_elements o _ c.in_ok-e.ensures in
-    let n = kept-none (values o) (9 - m.kind) m.kind (omega arith) in
+    let n = kept-none (values o) (8 - m.kind-index) (m.kind-index + 1) (omega arith) in
     ap Ok
     (counts-told c.args.b.now c.args.n c.args.start m.invariant.2 m.counts (sym (ap (grown_all m.counts) n) ∙ m.invariant.4) m.tables _ _ _ (omega arith)
-    (omega (arith, m.invariant.5, ap (λ ts. length ts) n)) (e.2 MAPS (omega arith) (omega arith)) (e.2 TTBL (omega arith) (omega arith)) (c.sum.ensures ∙ ap (λ u. capped (0 + u)) e.3))
+    (omega (arith, m.invariant.5, ap (λ ts. length ts) n)) (ap (λ k. get_or c.in_ok-e.e.entries k 0) c.number-2.ensures.0 ∙ e.2 MAPS (omega arith) (omega arith)) (ap (λ k. get_or c.in_ok-e.e.entries k 0) c.number-3.ensures.0 ∙ e.2 TTBL (omega arith) (omega arith)) (c.sum.ensures ∙ ap (λ u. capped (0 + u)) e.3))
     ∙ sym (ap needed_for (fine-done o m.invariant.2))
+
+pub overflow_add-place : goal.overflow_add-place
+overflow_add-place c =
+    let m = c.loop-kind in
+    omega (arith, kept-header _ _ _ _ m.invariant.2 _ (m.invariant.3 _ c.number.ensures.1 c.number.ensures.2) c.if-place.true)
 
 pub word-requires : goal.word-requires
 word-requires c =
     let m = c.loop-kind in
-    omega (arith, kept-header _ _ _ _ m.invariant.2 _ (m.invariant.3 _ (omega arith) (omega arith)) c.if-place.true)
+    omega (arith, kept-header _ _ _ _ m.invariant.2 _ (m.invariant.3 _ c.number.ensures.1 c.number.ensures.2) c.if-place.true)
 
 pub loop-kind-preserved : goal.loop-kind-preserved
 loop-kind-preserved c =
     let es = values (run (elements_from c.args.n c.args.start) c.args.b.now) in
     let m = c.loop-kind in
-    let more : 0 < 9 - m.kind = omega arith in
-    let one : 1 ≤ m.kind = omega arith in
-    let most : m.kind ≤ 8 = omega arith in
-    let place = m.invariant.3 m.kind one most in
-    let next : 9 - m.kind - 1 ≡ 9 - (m.kind + 1) = omega arith in
+    let i = m.kind-index in
+    let more : 0 < 8 - i = omega arith in
+    let one : 1 ≤ i + 1 = omega arith in
+    let most : i + 1 ≤ 8 = omega arith in
+    let k = in_order i (omega arith) _ in
+    let place = ap (λ k. get_or c.in_ok-e.e.places k 0) (c.number.ensures.0 ∙ k) ∙ m.invariant.3 (i + 1) one most in
+    let next : 8 - i - 1 ≡ 8 - (i + 1) = omega arith in
     rw (← next) (
       elim c.if-place.branch [ then-place w ↦ omega arith | else-place w ↦ omega arith ],
       elim c.if-place.branch [
@@ -67,9 +75,9 @@ loop-kind-preserved c =
       m.invariant.3,
       elim c.if-place.branch [
         | then-place w ↦
-            sym (count-here _ _ _ _ m.invariant.2 _ place _ _ more w.if-place.true one most _ w.word.ensures _ (w.counts-is ∙ w.grow-counts.ensures))
+            sym (count-here _ _ _ _ m.invariant.2 _ place _ _ more w.if-place.true one most _ w.word.ensures _ (w.counts-is ∙ w.grow-counts.ensures ∙ ap (λ k. grown (kind_list k) w.word.result m.counts) k))
         | else-place w ↦
-            ap (λ ms. grown_all ms (kept_from es (9 - m.kind - 1) (m.kind + 1))) w.counts-is
+            ap (λ ms. grown_all ms (kept_from es (8 - i - 1) (i + 1 + 1))) w.counts-is
             ∙ ap (grown_all m.counts) (sym (none_here _ _ _ _ m.invariant.2 _ place m.counts _ more c.requires.n_in_bounds.1 w.if-place.false))
       ]
           ∙ m.invariant.4,

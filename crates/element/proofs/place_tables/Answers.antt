@@ -13,7 +13,7 @@ loop-i-preserved c =
     let more : 0 < c.args.n - c.loop-i.i = omega arith in
     let found = c.descriptor_of-d.ensures in
     let e = one_on c.args.n c.loop-i.i c.args.start 8 in
-    rw (← e.0, ← e.1) (from-fine _ _ _ more _ found inv.0, inv.1 ∙ placed-more _ _ _ more _ found inv.0 _ _ c.kind_of-kind.ensures.0)
+    rw (← e.0, ← e.1) (from-fine _ _ _ more _ found inv.0, inv.1 ∙ placed-more _ _ _ more _ found inv.0 _ _ c.number_of-kind.ensures.0)
 
 pub returns : goal.returns
 returns c = sym (c.loop-i.invariant.1 ∙ placed-none _ _ _ _ (omega arith))

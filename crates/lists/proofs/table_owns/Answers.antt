@@ -9,11 +9,11 @@ use Rattle.lists.specs.Tables.{range-entries}
 use borrow.Author.Tests.{eq-eqb, ne_eqb}
 use Rattle.lists.proofs.table_owns.Goals as goal
 
-pub returns-then-table_word-ne-TTBL : goal.returns-then-table_word-ne-TTBL
-returns-then-table_word-ne-TTBL c = rw (ne_eqb _ _ (λ e. c.if-table_word-ne-TTBL.true (c.table_word.ensures ∙ e)))
+pub returns-then-table_word-number : goal.returns-then-table_word-number
+returns-then-table_word-number c = rw (ne_eqb _ _ (λ e. c.if-table_word-number.true (c.table_word.ensures ∙ e ∙ sym c.number.ensures.0)))
 
 pub returns : goal.returns
 returns c =
     let t = take (width TABLES) (drop c.args.at c.args.words.now) in
-    let e = sym c.table_word.ensures ∙ c.if-table_word-ne-TTBL.false in
+    let e = sym c.table_word.ensures ∙ (c.if-table_word-number.false ∙ c.number.ensures.0) in
     c.all_of.ensures ∙ rw (c.table_word-provider.ensures, c.range_at.ensures, eq-eqb (word_of TABLE_KIND t) TTBL e, range-entries c.args.words.now c.args.templates c.requires.first_value.0 t (c.requires.first_value.1 e))

@@ -1,6 +1,6 @@
 -- Each return cites the law of the test that led there.
 use Rattle.std.specs.Prelude.{Ok, Err}
-use mathlib.Core.Path.{refl, sym, ◌∙◌}
+use mathlib.Core.Path.{refl}
 use native.Mathlib.Omega.{arith}
 use Rattle.blob.proofs.Laws.{answer-found, answer-refused, handed_on}
 use Rattle.format.proofs.Theorems.Ends.{is_place, no_end}
