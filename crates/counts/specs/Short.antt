@@ -1,17 +1,16 @@
 -- What lists that need so much get of so much: 9 for the first that is too small; and the sums over the rows, row by row.
 use Prim.{tt}
-use Rattle.std.specs.Prelude.{ℕ, zero, suc, ◌+◌, ◌*◌, ◌≤◌, ◌<◌, ◌≡◌, refl, true, false, ◌&&◌, List, [], ◌∷◌, map, leb, ltb, eqb, length, get_or, drop, take, set, Ok, Err, Result}
-use Rattle.std.proofs.Common.{mul-le-mul, suc-add, add_assoc, add-zero, arith, ap, sym, ◌∙◌, drop_of_length-le, le-leb, leb-true, ltb-true, eqb-true, ne_eqb}
+use Rattle.std.specs.Prelude.{ℕ, zero, suc, ◌+◌, ◌*◌, ◌≤◌, ◌<◌, ◌≡◌, refl, false, ◌&&◌, List, [], ◌∷◌, map, leb, ltb, length, get_or, drop, take, set, Ok, Err, Result}
+use Rattle.std.proofs.Common.{mul-le-mul, suc-add, add_assoc, add-zero, arith, ap, sym, ◌∙◌, drop_of_length-le, le-leb, ltb-true}
 use Rattle.std.proofs.lemmas.Bool.{lt-leb}
 use Rattle.blob.specs.declared.Refusal.{Refusal}
 use Rattle.blob.specs.Places.{Each}
 use Rattle.blob.proofs.Laws.{passes}
 use Rattle.blob.specs.Reading.{choose}
-use Rattle.format.specs.Area.{Row, DEFINITIONS, rows, AREAS, WIDEST, place}
+use Rattle.format.specs.Area.{Row, rows, AREAS, WIDEST, place}
 use Rattle.format.specs.Answer.{too_small, capped, moderate, areas}
 use Rattle.format.specs.Steps.Needs.{plus, modest}
-use Rattle.format.specs.Table as kind
-use Rattle.format.specs.Table.{EVNT, TTBL, kind_list}
+use Rattle.format.specs.Table.{kind_list}
 
 unfoldable pub short : List Row → List ℕ → List ℕ → Result (Unit {0}) Refusal
 short [] cs ks = Ok tt
@@ -36,23 +35,14 @@ each-most [] m e i = omega arith
 each-most (n ∷ ns) m e zero = e.0
 each-most (n ∷ ns) m e (suc i) = each-most ns m e.1 i
 
-pub width-most : (i : ℕ) → i < AREAS → get_or widths i 0 ≤ WIDEST
-width-most i h = leb-true _ _ (passes AREAS (λ i. leb (get_or widths i 0) WIDEST) refl i h)
-
 -- so many entries have no more words than a word counts of the widest
 pub words-most : (n w : ℕ) → n < 4294967296 → w ≤ WIDEST → n * w ≤ WIDEST * 4294967295
 words-most n w h g = let l : n ≤ 4294967295 = omega arith in omega (arith, mul-le-mul l g)
 
--- the rows of kinds
+-- the row of a kind
 pub kind_row : (k : ℕ) → 1 ≤ k → k ≤ 8 → place (kind_list k) < AREAS
 kind_row zero h g = absurd (omega arith)
 kind_row (suc k) h g = ltb-true _ _ (passes 8 (λ k. ltb (place (kind_list (suc k))) AREAS) refl k (omega arith))
-
-pub other_row : (k : ℕ) → 1 ≤ k → k ≤ 8 → (k ≡ EVNT → ⊥) → (k ≡ kind.MAPS → ⊥) → (k ≡ TTBL → ⊥) → place (kind_list k) ≡ place DEFINITIONS
-other_row zero h g e m t = absurd (omega arith)
-other_row (suc k) h g e m t =
-    let x = passes 8 (λ k. choose (eqb (suc k) EVNT) true (choose (eqb (suc k) kind.MAPS) true (choose (eqb (suc k) TTBL) true (eqb (place (kind_list (suc k))) (place DEFINITIONS))))) refl k (omega arith) in
-    eqb-true _ _ (rw (ne_eqb _ _ e, ne_eqb _ _ m, ne_eqb _ _ t) at x)
 
 -- row by row: what is left decides
 pub short-step : (rs : List Row) (cs ks : List ℕ) (i : ℕ) → i < length rs → i < length cs → i < length ks
