@@ -2,14 +2,13 @@
 -- them, and what was given is marked by these.
 use Prim.{Unit}
 use Prim.Native.Nat.{ℕ, zero, suc, ◌+◌, ◌*◌, ◌-◌, ◌/◌, ◌≤◌, ◌<◌, min}
-use Rattle.std.specs.Prelude.{Option, Some, None, ◌≡◌, Bool, not, ◌&&◌, length, get_or, take, drop, set, replicate, eqb, leb, Ok, Result}
+use Rattle.std.specs.Prelude.{Option, Some, None, ◌≡◌, Bool, not, ◌&&◌, length, get_or, take, drop, set, replicate, eqb, leb}
 use Rattle.std.proofs.Math.Path.{refl, ap, ap₂}
 use Rattle.std.proofs.Common.{sym, ◌∙◌, subst, length-take, length-drop, take-take, eq-eqb, ne_eqb, le-leb}
 use Rattle.std.proofs.Math.Bool.{true, false}
 use mathlib.Core.List.{List, [], ◌∷◌, ◌++◌, map, append_assoc}
 use native.Mathlib.Omega.{arith}
 use Rattle.std.proofs.lemmas.Bool.{lt-leb}
-use Rattle.blob.specs.declared.Refusal.{Refusal}
 use Rattle.blob.specs.Reading.{Outcome, done, refused, choose}
 use Rattle.blob.specs.Laid.{laid, laid_more, flat, flat_map}
 use Rattle.format.specs.Area.{PROVIDERS, EVENTS, TEMPLATES, GUIDS, place, width}

@@ -12,4 +12,4 @@ pub returns-then-kind-gt-TTBL : goal.returns-then-kind-gt-TTBL
 returns-then-kind-gt-TTBL c = simp (lt-ltb _ _ c.if-c-provider.false, le-leb _ _ c.if-kind-lt-CHAN.false, lt-leb _ _ c.if-kind-gt-TTBL.true)
 
 pub returns : goal.returns
-returns c = simp (lt-ltb _ _ c.if-c-provider.false, le-leb _ _ c.if-kind-lt-CHAN.false, le-leb _ _ c.if-kind-gt-TTBL.false, c.row_of-row.ensures.0)
+returns c = simp (lt-ltb _ _ c.if-c-provider.false, le-leb _ _ c.if-kind-lt-CHAN.false, le-leb _ _ c.if-kind-gt-TTBL.false, c.row.ensures.0, c.list_of-list.ensures)
