@@ -13,13 +13,14 @@ ghost use Rattle.format.specs.Steps.Parts as parts;
 ghost use Rattle.fillers.specs.Unknown.{words_of};
 ghost use Rattle.format.specs.Area as rows;
 ghost use Rattle.format.specs.Area.{width};
+ghost use Rattle.format.specs.Named.{number_of};
 ghost use Rattle.fillers.specs.Kinds.{headed, kept_at, Stands, has_any};
 ghost use Rattle.fillers.specs.Rows.{only, holds_definitions, has_entries, trailing_of};
 
 use element::NONE;
 use format::kind::{CHAN, EVNT, KINDS, MAPS, TTBL};
-use format::list::{AREAS, row, width};
-use format::{Descriptor, Header, list};
+use format::list::{AREAS, List, row, width};
+use format::{Descriptor, Header};
 
 // Stores the words of n descriptors that are fine; here and below it hands back how many words they are.
 pub fn fill_descriptors(b: &[u8], start: usize, n: u32, area: &mut [u32]) -> usize
@@ -63,16 +64,17 @@ fn holds_definitions(kind: u32) -> bool
     }
 }
 
-// Whether tables of a kind have entries in a list.
-fn has_entries(list: u32, kind: u32) -> bool
-    ensures { result ≡ has_entries list kind }
+// Whether tables of a kind have entries in a list. A list that has nothing of tables, here and below, would be taken for the templates', but
+// is never asked for.
+fn has_entries(list: List, kind: u32) -> bool
+    ensures { result ≡ has_entries (number_of list) kind }
 {
     match list {
-        list::TABLES => true,
-        list::DEFINITIONS => holds_definitions(kind),
-        list::EVENTS => kind == EVNT,
-        list::MAPS => kind == MAPS,
-        list::ENTRIES => kind == MAPS,
+        List::Tables => true,
+        List::Definitions => holds_definitions(kind),
+        List::Events => kind == EVNT,
+        List::Maps => kind == MAPS,
+        List::Entries => kind == MAPS,
         _ => kind == TTBL,
     }
 }
@@ -123,7 +125,7 @@ fn put_table(
     ensures { parts.TablesStored rows.TABLES number before.old (only (run (table_at kind at h) b.now)) area.old result before.new area.new }
 {
     let t = trailing_of(b, kind, at, h);
-    let i = counts::row_of(kind);
+    let i = counts::list_of(kind).row();
     let first = before[i];
     let entry = [
         number, kind, at as u32, h.size, t.extra, first, h.count, t.start, t.length,
@@ -136,7 +138,7 @@ fn put_table(
 // Stores what a list has of a table of a kind that has entries in it. List 7 counts the entries of its maps, list 12 the templates.
 fn put_rows(
     b: &[u8],
-    list: u32,
+    list: List,
     kind: u32,
     at: usize,
     h: Header,
@@ -146,27 +148,27 @@ fn put_rows(
 ) -> usize
     requires le_kind { (1 ≤ kind) × (kind ≤ 8) × (at + header_length kind ≤ length b.now) × (length b.now ≤ 16777216) }
     requires b_value { verdict (run (table_at kind at h) b.now) ≡ Ok tt }
-    requires kind_value { has_entries list kind ≡ true }
-    requires tables_room { parts.TablesRoom list number before.old (only (run (table_at kind at h) b.now)) area.old }
-    ensures { parts.TablesStored list number before.old (only (run (table_at kind at h) b.now)) area.old result before.new area.new }
+    requires kind_value { has_entries (number_of list) kind ≡ true }
+    requires tables_room { parts.TablesRoom (number_of list) number before.old (only (run (table_at kind at h) b.now)) area.old }
+    ensures { parts.TablesStored (number_of list) number before.old (only (run (table_at kind at h) b.now)) area.old result before.new area.new }
 {
     let count = h.count as usize;
     match list {
-        list::TABLES => put_table(b, kind, at, h, number, before, area),
-        list::DEFINITIONS => {
+        List::Tables => put_table(b, kind, at, h, number, before, area),
+        List::Definitions => {
             definition::fill_definitions(b, kind, at, h, area);
             width::DEFINITIONS * count
         }
-        list::EVENTS => {
+        List::Events => {
             event::fill_events(b, at + 16, h.count, area);
             width::EVENTS * count
         }
-        list::MAPS => {
+        List::Maps => {
             before[row::ENTRIES] = map::fill_maps(b, at, h, before[row::ENTRIES], area);
             width::MAPS * count
         }
-        list::ENTRIES => map::fill_entries(b, at, h, area),
-        list::ITEMS => {
+        List::Entries => map::fill_entries(b, at, h, area),
+        List::Items => {
             let first = before[row::TEMPLATES];
             before[row::TEMPLATES] = first + h.count;
             template::fill_items(b, at, h, first, area)
@@ -190,8 +192,8 @@ fn header_of(b: &[u8], at: usize) -> Header
 }
 
 // Whether a list has anything of the table of a kind that is kept at a place.
-fn has_any(list: u32, kind: u32, place: u32) -> bool
-    ensures { result ≡ has_any list kind place }
+fn has_any(list: List, kind: u32, place: u32) -> bool
+    ensures { result ≡ has_any (number_of list) kind place }
 {
     if place == NONE {
         return false;
@@ -202,7 +204,7 @@ fn has_any(list: u32, kind: u32, place: u32) -> bool
 // Stores what it has.
 fn put_kind(
     b: &[u8],
-    list: u32,
+    list: List,
     kind: u32,
     place: u32,
     number: u32,
@@ -210,8 +212,8 @@ fn put_kind(
     area: &mut [u32],
 ) -> usize
     requires b_len_bound { (length b.now ≤ 16777216) × (1 ≤ kind) × (kind ≤ 8) × Stands b.now kind place }
-    requires tables_room { parts.TablesRoom list number before.old (kept_at b.now kind place) area.old }
-    ensures { parts.TablesStored list number before.old (kept_at b.now kind place) area.old result before.new area.new }
+    requires tables_room { parts.TablesRoom (number_of list) number before.old (kept_at b.now kind place) area.old }
+    ensures { parts.TablesStored (number_of list) number before.old (kept_at b.now kind place) area.old result before.new area.new }
 {
     if has_any(list, kind, place) {
         let at = place as usize;
@@ -225,15 +227,15 @@ pub fn fill_tables(
     b: &[u8],
     start: usize,
     n: u32,
-    list: u32,
+    list: List,
     number: u32,
     before: &mut [u32; AREAS],
     area: &mut [u32],
 ) -> usize
     requires n_in_bounds { (start + 8 * n ≤ length b.now) × (length b.now ≤ 16777216) }
     requires b_value { verdict (run (elements_from n start) b.now) ≡ Ok tt }
-    requires tables_room { parts.TablesRoom list number before.old (kept (values (run (elements_from n start) b.now))) area.old }
-    ensures { parts.TablesStored list number before.old (kept (values (run (elements_from n start) b.now))) area.old result before.new area.new }
+    requires tables_room { parts.TablesRoom (number_of list) number before.old (kept (values (run (elements_from n start) b.now))) area.old }
+    ensures { parts.TablesStored (number_of list) number before.old (kept (values (run (elements_from n start) b.now))) area.old result before.new area.new }
 {
     let mut places = [NONE; KINDS];
     element::place_tables(b, start, n, &mut places);

@@ -3,7 +3,7 @@ use native.Mathlib.Omega.{arith}
 use Rattle.blob.proofs.Laws.{fine-value, not_refused}
 use Rattle.fillers.specs.Rows.{trailing_of, shape, no-trailing, header-as, trailing_is, never_ends}
 use Rattle.table.specs.Headers.{end-bounds}
-use Rattle.format.proofs.Theorems.Ends.{is_place, no_end}
+use Rattle.format.proofs.Theorems.Ends.{is_place}
 use borrow.Author.Rules.{rules}
 use Rattle.fillers.proofs.trailing_of.Goals as goal
 
