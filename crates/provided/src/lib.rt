@@ -65,20 +65,6 @@ pub fn fill(
             fillers::fill_unknown2(b, start + 8 * (v.descriptors as usize), v.unknown2, area)
         }
         List::Unknown => fillers::fill_unknown(b, start, v.descriptors, number, area),
-        List::Tables
-        | List::Definitions
-        | List::Events
-        | List::Maps
-        | List::Entries
-        | List::Templates
-        | List::Items => fillers::fill_tables(
-            b,
-            start,
-            v.descriptors,
-            list.number(),
-            number,
-            before,
-            area,
-        ),
+        _ => fillers::fill_tables(b, start, v.descriptors, list, number, before, area),
     }
 }
