@@ -6,19 +6,20 @@ ghost use Rattle.blob.specs.Reading.{run, verdict};
 ghost use Rattle.blob.specs.Laid.{laid};
 ghost use Rattle.format.specs.Answer as spec;
 ghost use Rattle.format.specs.Area.{rows, none};
+ghost use Rattle.format.specs.Named.{number_of};
 ghost use Rattle.format.specs.Lists.{lists};
 ghost use Rattle.format.specs.Steps.Needs as need;
 ghost use Rattle.format.specs.Steps.Parts as parts;
 ghost use Rattle.areas.specs.Areas.{providers, providers_in, roomy};
 
-use format::list::{AREAS, NUMBERS, WORDS};
+use format::list::{AREAS, List};
 
 // Stores what a list has of n providers that are fine.
-fn fill(b: &[u8], n: u32, list: u32, area: &mut [u32])
+fn fill(b: &[u8], n: u32, list: List, area: &mut [u32])
     requires n_in_bounds { (16 + 20 * n ≤ length b.now) × (length b.now ≤ 16777216) }
     requires b_value { verdict (run (providers n) b.now) ≡ Ok tt }
-    requires room { parts.Room (parts.parts list 0 none (providers_in n b.now)) (parts.passed_all list none (providers_in n b.now)) area.old }
-    ensures { area.new ≡ laid area.old 0 (parts.parts list 0 none (providers_in n b.now)) }
+    requires room { parts.Room (parts.parts (number_of list) 0 none (providers_in n b.now)) (parts.passed_all (number_of list) none (providers_in n b.now)) area.old }
+    ensures { area.new ≡ laid area.old 0 (parts.parts (number_of list) 0 none (providers_in n b.now)) }
 {
     let mut before = [0; AREAS];
     let mut to = 0;
@@ -33,7 +34,7 @@ fn fill(b: &[u8], n: u32, list: u32, area: &mut [u32])
 fn fill_area(
     b: &[u8],
     n: u32,
-    list: u32,
+    list: List,
     words: &mut [u32],
     from: usize,
     size: usize,
@@ -42,10 +43,10 @@ fn fill_area(
     requires n_in_bounds { (16 + 20 * n ≤ length b.now) × (length b.now ≤ 16777216) }
     requires b_value { verdict (run (providers n) b.now) ≡ Ok tt }
     requires size_in_bounds { from + size ≤ length words.old }
-    requires b_len_bound { (length (parts.parts list 0 none (providers_in n b.now)) ≤ size) × parts.Counted (parts.passed_all list none (providers_in n b.now)) }
-    requires b_value_2 { need ≡ 0 → parts.parts list 0 none (providers_in n b.now) ≡ [] }
+    requires b_len_bound { (length (parts.parts (number_of list) 0 none (providers_in n b.now)) ≤ size) × parts.Counted (parts.passed_all (number_of list) none (providers_in n b.now)) }
+    requires b_value_2 { need ≡ 0 → parts.parts (number_of list) 0 none (providers_in n b.now) ≡ [] }
     ensures value { result ≡ from + size }
-    ensures words_after { words.new ≡ laid words.old from (parts.parts list 0 none (providers_in n b.now)) }
+    ensures words_after { words.new ≡ laid words.old from (parts.parts (number_of list) 0 none (providers_in n b.now)) }
 {
     let to = from + size;
     if need == 0 {
@@ -69,12 +70,9 @@ pub fn fill_areas(
     requires roomy { roomy capacities (providers_in n b.now) }
     ensures { words.new ≡ spec.filled words.old 0 rows capacities (lists (providers_in n b.now)) }
 {
-    // The tables once, outside the loop: a constant array is made anew wherever it is read.
-    let numbers = NUMBERS;
-    let widths = WORDS;
     let mut to = 0;
-    for i in 0..AREAS {
-        let size = (capacities[i] as usize) * widths[i];
-        to = fill_area(b, n, numbers[i], words, to, size, needs[i]);
+    for (i, list) in List::ALL.iter().enumerate() {
+        let size = counts::words_of(capacities[i], *list);
+        to = fill_area(b, n, *list, words, to, size, needs[i]);
     }
 }

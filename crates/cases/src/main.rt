@@ -8,7 +8,7 @@ ghost use Rattle.std.specs.Prelude.{◌+◌, ◌*◌, ◌≤◌, ◌<◌, length
 ghost use Rattle.format.specs.Area.{AREAS};
 
 use format::Answer;
-use format::list::{AREAS, EACH};
+use format::list::{AREAS, EACH, List};
 use std::array;
 
 // Standard input and standard output, as the system numbers them. Printing by std would rest on two more functions of the C library.
@@ -53,14 +53,12 @@ fn say_answer(name: &[u8], a: Answer) {
     say_line_end();
 }
 
-// Prints the words of the list of a row, where it has entries.
-fn say_list(row: usize, words: &[u32], n: [u32; AREAS], capacities: [u32; AREAS])
-    requires { row < AREAS }
-{
-    let from = counts::area_at(capacities, row);
-    let to = from + counts::words_of(n[row], row);
+// Prints the words of a list, where it has entries.
+fn say_list(list: List, words: &[u32], n: [u32; AREAS], capacities: [u32; AREAS]) {
+    let from = counts::area_at(capacities, list);
+    let to = from + counts::words_of(n[list.row()], list);
     if from < to && to <= words.len() {
-        say(b"  list ", u64::from(counts::number_of(row)));
+        say(b"  list ", u64::from(list.number()));
         io::write_all(STDOUT_FILENO, b":");
         say_words(&words[from..to]);
         say_line_end();
@@ -68,8 +66,8 @@ fn say_list(row: usize, words: &[u32], n: [u32; AREAS], capacities: [u32; AREAS]
 }
 
 fn say_lists(words: &[u32], n: [u32; AREAS], capacities: [u32; AREAS]) {
-    for row in 0..AREAS {
-        say_list(row, words, n, capacities);
+    for list in List::ALL {
+        say_list(list, words, n, capacities);
     }
 }
 

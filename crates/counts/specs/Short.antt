@@ -35,14 +35,11 @@ each-most [] m e i = omega arith
 each-most (n ∷ ns) m e zero = e.0
 each-most (n ∷ ns) m e (suc i) = each-most ns m e.1 i
 
-pub width-most : (i : ℕ) → i < AREAS → get_or widths i 0 ≤ WIDEST
-width-most i h = leb-true _ _ (passes AREAS (λ i. leb (get_or widths i 0) WIDEST) refl i h)
-
 -- so many entries have no more words than a word counts of the widest
 pub words-most : (n w : ℕ) → n < 4294967296 → w ≤ WIDEST → n * w ≤ WIDEST * 4294967295
 words-most n w h g = let l : n ≤ 4294967295 = omega arith in omega (arith, mul-le-mul l g)
 
--- the rows of kinds
+-- the row of a kind
 pub kind_row : (k : ℕ) → 1 ≤ k → k ≤ 8 → place (kind_list k) < AREAS
 kind_row zero h g = absurd (omega arith)
 kind_row (suc k) h g = ltb-true _ _ (passes 8 (λ k. ltb (place (kind_list (suc k))) AREAS) refl k (omega arith))

@@ -2,27 +2,28 @@
 // the caller lends.
 #![tactic(auto)]
 
-ghost use Rattle.std.specs.Prelude.{◌≡◌, ◌&&◌, ◌*◌, ◌≤◌, ◌<◌, leb, take, get_or};
+ghost use Rattle.std.specs.Prelude.{◌≡◌, ◌&&◌, ◌*◌, ◌≤◌, leb, take};
 ghost use Rattle.format.specs.Area as area;
+ghost use Rattle.format.specs.Named.{number_of};
 ghost use Rattle.format.specs.Answer as answer;
 ghost use Rattle.format.specs.Steps.Needs as needs;
 ghost use Rattle.format.specs.Table.{kind_list};
 ghost use Rattle.format.specs.Kinds.{number};
-ghost use Rattle.counts.specs.Short.{widths, numbers, short};
+ghost use Rattle.counts.specs.Short.{short};
 
 use blob::Refusal;
 use format::kind::Kind;
-use format::list::{AREAS, MOST, NUMBERS, WORDS, row};
+use format::list::{AREAS, List, MOST};
 
-// Which row has the entries of a kind's tables.
-pub fn row_of(kind: Kind) -> usize
-    ensures { (result ≡ area.place (kind_list (number kind))) × (result < area.AREAS) }
+// Which list has the entries of a kind's tables.
+pub fn list_of(kind: Kind) -> List
+    ensures { number_of result ≡ kind_list (number kind) }
 {
     match kind {
-        Kind::Evnt => row::EVENTS,
-        Kind::Maps => row::MAPS,
-        Kind::Ttbl => row::TEMPLATES,
-        _ => row::DEFINITIONS,
+        Kind::Evnt => List::Events,
+        Kind::Maps => List::Maps,
+        Kind::Ttbl => List::Templates,
+        _ => List::Definitions,
     }
 }
 
@@ -31,7 +32,7 @@ pub fn grow(ns: [u32; AREAS], kind: Kind, n: u32) -> [u32; AREAS]
     requires { needs.modest ns }
     ensures { result ≡ needs.grown (kind_list (number kind)) n ns }
 {
-    let i = row_of(kind);
+    let i = list_of(kind).row();
     let mut out = ns;
     out[i] = bounds::sum(out[i], n);
     out
@@ -49,27 +50,11 @@ pub fn add(all: [u32; AREAS], more: [u32; AREAS]) -> [u32; AREAS]
     sums
 }
 
-// The words of an entry, and the number of its list, by the list's row.
-pub fn width_of(row: usize) -> usize
-    requires { row < area.AREAS }
-    ensures { (result ≡ get_or widths row 0) × (result ≤ area.WIDEST) }
-{
-    WORDS[row]
-}
-
-pub fn number_of(row: usize) -> u32
-    requires { row < area.AREAS }
-    ensures { result ≡ get_or numbers row 0 }
-{
-    NUMBERS[row]
-}
-
 // The words of so many entries of a list.
-pub fn words_of(entries: u32, row: usize) -> usize
-    requires { row < area.AREAS }
-    ensures { (result ≡ entries * get_or widths row 0) × (result ≤ area.WIDEST * 4294967295) }
+pub fn words_of(entries: u32, list: List) -> usize
+    ensures { (result ≡ entries * area.width (number_of list)) × (result ≤ area.WIDEST * 4294967295) }
 {
-    (entries as usize) * width_of(row)
+    (entries as usize) * list.width()
 }
 
 // Whether the capacities, and so many lent words, will do.
@@ -77,23 +62,22 @@ pub fn lent_enough(c: [u32; AREAS], words: usize) -> bool
     ensures { result ≡ (answer.moderate c && leb (answer.areas area.rows c) words) }
 {
     let mut sum = 0;
-    for i in 0..AREAS {
+    for (i, list) in List::ALL.iter().enumerate() {
         if MOST < c[i] {
             return false;
         }
-        sum += words_of(c[i], i);
+        sum += words_of(c[i], *list);
     }
     sum <= words
 }
 
-// Where the area of a row starts: those before it end there.
-pub fn area_at(c: [u32; AREAS], row: usize) -> usize
-    requires { row < area.AREAS }
-    ensures { (result ≡ answer.areas area.rows (take row c)) × (result ≤ area.AREAS * (area.WIDEST * 4294967295)) }
+// Where the area of a list starts: those before it end there.
+pub fn area_at(c: [u32; AREAS], list: List) -> usize
+    ensures { (result ≡ answer.areas area.rows (take (area.place (number_of list)) c)) × (result ≤ area.AREAS * (area.WIDEST * 4294967295)) }
 {
     let mut sum = 0;
-    for i in 0..row {
-        sum += words_of(c[i], i);
+    for (i, before) in List::ALL[..list.row()].iter().enumerate() {
+        sum += words_of(c[i], *before);
     }
     sum
 }
@@ -102,13 +86,13 @@ pub fn area_at(c: [u32; AREAS], row: usize) -> usize
 pub fn room(c: [u32; AREAS], needs: [u32; AREAS]) -> Result<(), Refusal>
     ensures { result ≡ short area.rows c needs }
 {
-    for i in 0..AREAS {
+    for (i, list) in List::ALL.iter().enumerate() {
         if c[i] < needs[i] {
             return Err(Refusal {
                 code: 9,
                 field: 0,
                 place: 0,
-                first: number_of(i) as u64,
+                first: list.number() as u64,
                 second: c[i] as u64,
             });
         }

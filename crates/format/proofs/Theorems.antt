@@ -2,6 +2,7 @@
 pub mod Cases
 pub mod Examples
 pub mod Words
+pub mod Rowed
 pub mod Order
 pub mod Coded
 pub mod Codes

@@ -4,6 +4,7 @@ pub mod Refuse
 pub mod Region
 pub mod Name
 pub mod Area
+pub mod Named
 pub mod Entry
 pub mod Table
 pub mod Definition

@@ -1,58 +1,99 @@
-// The lists that have an area in the lent words, a row for each: its number, and the words of its entries. specs/Area.antt says the same.
+ghost use Rattle.std.specs.Prelude.{◌≡◌, ◌<◌, ◌≤◌};
+ghost use Rattle.format.specs.Area as area;
+ghost use Rattle.format.specs.Named.{number_of};
+
+// How many lists have an area in the lent words.
 pub const AREAS: usize = 11;
 
-pub const NUMBERS: [u32; AREAS] = [
-    PROVIDERS,
-    DESCRIPTORS,
-    UNKNOWN2,
-    TABLES,
-    DEFINITIONS,
-    EVENTS,
-    MAPS,
-    ENTRIES,
-    TEMPLATES,
-    UNKNOWN,
-    ITEMS,
-];
+// These lists, in the order of the areas. specs/Area.antt has a row for each.
+#[derive(Clone, Copy)]
+pub enum List {
+    Providers,
+    Descriptors,
+    Unknown2,
+    Tables,
+    Definitions,
+    Events,
+    Maps,
+    Entries,
+    Templates,
+    Unknown,
+    Items,
+}
 
-pub const WORDS: [usize; AREAS] = [
-    width::PROVIDERS,
-    width::DESCRIPTORS,
-    width::UNKNOWN2,
-    width::TABLES,
-    width::DEFINITIONS,
-    width::EVENTS,
-    width::MAPS,
-    width::ENTRIES,
-    width::TEMPLATES,
-    width::UNKNOWN,
-    width::ITEMS,
-];
+impl List {
+    pub const ALL: [List; AREAS] = [
+        List::Providers,
+        List::Descriptors,
+        List::Unknown2,
+        List::Tables,
+        List::Definitions,
+        List::Events,
+        List::Maps,
+        List::Entries,
+        List::Templates,
+        List::Unknown,
+        List::Items,
+    ];
 
-// The numbers.
-pub const PROVIDERS: u32 = 1;
+    pub fn number(self) -> u32
+        ensures { result ≡ number_of self }
+    {
+        match self {
+            List::Providers => 1,
+            List::Descriptors => 2,
+            List::Unknown2 => 3,
+            List::Tables => 4,
+            List::Definitions => 5,
+            List::Events => 6,
+            List::Maps => 7,
+            List::Entries => 8,
+            List::Templates => 9,
+            List::Unknown => 10,
+            List::Items => 12,
+        }
+    }
 
-pub const DESCRIPTORS: u32 = 2;
+    // Where its number stands among those of all lists.
+    pub fn row(self) -> usize
+        ensures { (result ≡ area.place (number_of self)) × (result < area.AREAS) }
+    {
+        match self {
+            List::Providers => row::PROVIDERS,
+            List::Descriptors => row::DESCRIPTORS,
+            List::Unknown2 => row::UNKNOWN2,
+            List::Tables => row::TABLES,
+            List::Definitions => row::DEFINITIONS,
+            List::Events => row::EVENTS,
+            List::Maps => row::MAPS,
+            List::Entries => row::ENTRIES,
+            List::Templates => row::TEMPLATES,
+            List::Unknown => row::UNKNOWN,
+            List::Items => row::ITEMS,
+        }
+    }
 
-pub const UNKNOWN2: u32 = 3;
+    // The words of an entry.
+    pub fn width(self) -> usize
+        ensures { (result ≡ area.width (number_of self)) × (result ≤ area.WIDEST) }
+    {
+        match self {
+            List::Providers => width::PROVIDERS,
+            List::Descriptors => width::DESCRIPTORS,
+            List::Unknown2 => width::UNKNOWN2,
+            List::Tables => width::TABLES,
+            List::Definitions => width::DEFINITIONS,
+            List::Events => width::EVENTS,
+            List::Maps => width::MAPS,
+            List::Entries => width::ENTRIES,
+            List::Templates => width::TEMPLATES,
+            List::Unknown => width::UNKNOWN,
+            List::Items => width::ITEMS,
+        }
+    }
+}
 
-pub const TABLES: u32 = 4;
-
-pub const DEFINITIONS: u32 = 5;
-
-pub const EVENTS: u32 = 6;
-
-pub const MAPS: u32 = 7;
-
-pub const ENTRIES: u32 = 8;
-
-pub const TEMPLATES: u32 = 9;
-
-pub const UNKNOWN: u32 = 10;
-
-pub const ITEMS: u32 = 12;
-
-// Lent singly, and so without a row.
+// The number of the list that is lent singly, and so has no area.
 pub const GUIDS: u32 = 11;
 
 // Which row is a list's: where its number stands among those of all lists.

@@ -15,7 +15,7 @@ ghost use Rattle.indexer.specs.Listed as spec;
 use blob::Refusal;
 use format::entry::EVENT_TEMPLATE;
 use format::kind;
-use format::list::{row, width};
+use format::list::{List, row, width};
 use lists::{Fitted, Lists, NOBODY, Run, Together};
 
 // The widths of an event's fields, each by the largest number that has it.
@@ -185,7 +185,7 @@ fn resolve(together: &Together, owners: &mut [u32; 65536])
         lists: together.lists,
     };
     let words = together.lists.words;
-    let start = counts::area_at(together.lists.capacities, row::EVENTS);
+    let start = counts::area_at(together.lists.capacities, List::Events);
     let count = together.lists.counts[row::EVENTS];
     let mut known = Known {
         provider: 0,
@@ -292,8 +292,8 @@ fn size_index(fitted: &Fitted, owners: &[u32; 65536]) -> Extent
         capacities,
         counts,
     } = fitted.lists;
-    let providers = counts::area_at(capacities, row::PROVIDERS);
-    let events = counts::area_at(capacities, row::EVENTS);
+    let providers = counts::area_at(capacities, List::Providers);
+    let events = counts::area_at(capacities, List::Events);
     let found = size_entries(words, events, counts[row::EVENTS], owners);
     let head = [EDITION, counts[row::PROVIDERS] as u64];
     let entries = [found.entries as u64];
@@ -318,8 +318,8 @@ fn put_index(fitted: &Fitted, owners: &[u32; 65536], found: u32, bytes: &mut [u8
         capacities,
         counts,
     } = fitted.lists;
-    let providers = counts::area_at(capacities, row::PROVIDERS);
-    let events = counts::area_at(capacities, row::EVENTS);
+    let providers = counts::area_at(capacities, List::Providers);
+    let events = counts::area_at(capacities, List::Events);
     let head = [EDITION, counts[row::PROVIDERS] as u64];
     let entries = [found as u64];
     let to = put_all(bytes, 0, &head);
@@ -351,7 +351,7 @@ pub fn write(lists: &Lists, bytes: &mut [u8]) -> Result<usize, Refusal>
     if !together.owners(&mut owners) {
         return Err(bounds::own(10));
     }
-    let events = together.lists.run_of(row::EVENTS);
+    let events = together.lists.run_of(List::Events);
     if !all_fit(together.lists.words, events.start, events.count) {
         return Err(bounds::own(10));
     }

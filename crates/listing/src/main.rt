@@ -12,7 +12,7 @@ use format::Answer;
 use format::entry::{
     TEMPLATE_LENGTH, TEMPLATE_OFFSET, TEMPLATE_PROVIDER, TEMPLATE_SIZE, TEMPLATE_START,
 };
-use format::list::{AREAS, EACH, row, width};
+use format::list::{AREAS, EACH, List, row, width};
 
 // Standard input and standard output, as the system numbers them.
 const STDIN_FILENO: i32 = 0;
@@ -147,7 +147,7 @@ fn put_templates(words: &[u32], n: u32, out: &mut [u8], at: usize) -> usize
     ensures put { Put out.old at (rendered (lines_from words.now n templates_at)) result out.new }
     ensures upper_bound { result ≤ at + 135 * n }
 {
-    let from = counts::area_at([CAPACITY; AREAS], row::TEMPLATES);
+    let from = counts::area_at([CAPACITY; AREAS], List::Templates);
     let mut to = at;
     for i in 0..n as usize {
         to = put_template(words, from + width::TEMPLATES * i, out, to);

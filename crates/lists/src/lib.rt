@@ -2,14 +2,14 @@
 // is found among entries, and which provider an event belongs to. Nothing here knows the bytes that were read.
 #![tactic(auto)]
 
-ghost use Rattle.std.specs.Prelude.{◌≡◌, true, ◌&&◌, [], ◌∷◌, ◌+◌, ◌*◌, ◌≤◌, ◌<◌, leb, ltb, length, take, drop, get_or, MatchResult, Ok, Err};
+ghost use Rattle.std.specs.Prelude.{◌≡◌, true, ◌&&◌, [], ◌∷◌, ◌+◌, ◌*◌, ◌≤◌, ◌<◌, leb, ltb, length, take, drop, MatchResult, Ok, Err};
 ghost use Rattle.format.specs.Area as area;
+ghost use Rattle.format.specs.Named.{number_of};
 ghost use Rattle.format.specs.Answer as answer;
 ghost use Rattle.format.specs.Table.{kind_list};
 ghost use Rattle.format.specs.Kinds as kinds;
 ghost use Rattle.format.specs.Lookup as right;
 ghost use Rattle.format.specs.Owner.{events_owned};
-ghost use Rattle.counts.specs.Short.{widths};
 ghost use Rattle.lists.specs.Found as spec;
 ghost use Rattle.lists.specs.Owners as owner;
 
@@ -18,7 +18,7 @@ use format::entry::{
     TABLE_COUNT, TABLE_FIRST, TABLE_KIND, TABLE_PROVIDER, TEMPLATE_OFFSET, TEMPLATE_PROVIDER,
 };
 use format::kind::Kind;
-use format::list::{AREAS, MOST, row, width};
+use format::list::{AREAS, List, MOST, row, width};
 
 // The lists of a reading, as they are lent.
 #[derive(Clone, Copy)]
@@ -67,20 +67,20 @@ pub fn same(words: &[u32], at: usize, key: &[u32]) -> bool
 }
 
 // Where an entry stands, by its number, in a list that starts at a place.
-pub fn entry_at(start: usize, row: usize, number: u32) -> usize
-    requires { (row < area.AREAS) × (start + get_or widths row 0 * number < 18446744073709551616) }
-    ensures { result ≡ start + get_or widths row 0 * number }
+pub fn entry_at(start: usize, list: List, number: u32) -> usize
+    requires { start + area.width (number_of list) * number < 18446744073709551616 }
+    ensures { result ≡ start + area.width (number_of list) * number }
 {
-    start + counts::words_of(number, row)
+    start + counts::words_of(number, list)
 }
 
-// The lowest of some entries of a row's list that has some words from its word `from` on.
-pub fn find(words: &[u32], run: Run, row: usize, from: usize, key: &[u32]) -> Option<u32>
-    requires row_lt_areas { (row < area.AREAS) × (from + length key.now ≤ get_or widths row 0) }
-    requires few { spec.few (get_or widths row 0) run words.now }
-    ensures { result ≡ spec.found (right.position (spec.has from key.now) run.first (spec.entries (get_or widths row 0) run words.now)) }
+// The lowest of some entries of a list that has some words from its word `from` on.
+pub fn find(words: &[u32], run: Run, list: List, from: usize, key: &[u32]) -> Option<u32>
+    requires key_in_entry { from + length key.now ≤ area.width (number_of list) }
+    requires few { spec.few (area.width (number_of list)) run words.now }
+    ensures { result ≡ spec.found (right.position (spec.has from key.now) run.first (spec.entries (area.width (number_of list)) run words.now)) }
 {
-    let width = counts::width_of(row);
+    let width = list.width();
     for number in run.first..run.first + run.count {
         let at = run.start + width * (number as usize);
         if same(words, at + from, key) {
@@ -96,7 +96,7 @@ pub fn at_offset(words: &[u32], templates: Run, offset: u32) -> Option<u32>
     ensures { result ≡ spec.found (spec.lowest words.now templates offset) }
 {
     let key = [offset];
-    find(words, templates, row::TEMPLATES, TEMPLATE_OFFSET, &key)
+    find(words, templates, List::Templates, TEMPLATE_OFFSET, &key)
 }
 
 // Those of some entries that are behind one of them, by its number.
@@ -119,16 +119,15 @@ pub fn counts_fit(c: [u32; AREAS], capacities: [u32; AREAS]) -> bool
 }
 
 impl<'a> Lists<'a> {
-    // A whole list, by its row.
-    pub fn run_of(&self, row: usize) -> Run
-        requires { row < area.AREAS }
-        ensures { result ≡ spec.run_of self.now.capacities self.now.counts row }
+    // A whole list.
+    pub fn run_of(&self, list: List) -> Run
+        ensures { result ≡ spec.run_of self.now.capacities self.now.counts (area.place (number_of list)) }
     {
-        let start = counts::area_at(self.capacities, row);
+        let start = counts::area_at(self.capacities, list);
         Run {
             start,
             first: 0,
-            count: self.counts[row],
+            count: self.counts[list.row()],
         }
     }
 
@@ -171,8 +170,8 @@ fn in_lists(c: [u32; AREAS], provider: u32, kind: u32, first: u32, count: u32) -
     let Some(kind) = Kind::of(kind) else {
         return false;
     };
-    let row = counts::row_of(kind);
-    (first as u64) + (count as u64) <= (c[row] as u64)
+    let list = counts::list_of(kind);
+    (first as u64) + (count as u64) <= (c[list.row()] as u64)
 }
 
 // A word of the table entry at a place.
@@ -244,8 +243,8 @@ impl<'a> Fitted<'a> {
             (right.entries_of self.now.lists.words.now self.now.lists.capacities self.now.lists.counts area.TABLES) }
     {
         let words = self.lists.words;
-        let templates = self.lists.run_of(row::TEMPLATES);
-        let tables = self.lists.run_of(row::TABLES);
+        let templates = self.lists.run_of(List::Templates);
+        let tables = self.lists.run_of(List::Tables);
         for i in 0..tables.count as usize {
             let at = tables.start + width::TABLES * i;
             if !table_fits(words, at, self.lists.counts) {
@@ -263,17 +262,17 @@ impl<'a> Fitted<'a> {
         ensures { result ≡ spec.owned self.now.lists.words.now self.now.lists.capacities self.now.lists.counts provider (kinds.number kind) }
     {
         let words = self.lists.words;
-        let start = counts::area_at(self.lists.capacities, counts::row_of(kind));
-        let tables = self.lists.run_of(row::TABLES);
+        let start = counts::area_at(self.lists.capacities, counts::list_of(kind));
+        let tables = self.lists.run_of(List::Tables);
         let key = [provider, kind.number()];
-        let Some(n) = find(words, tables, row::TABLES, TABLE_PROVIDER, &key) else {
+        let Some(n) = find(words, tables, List::Tables, TABLE_PROVIDER, &key) else {
             return Run {
                 start,
                 first: 0,
                 count: 0,
             };
         };
-        range_at(words, entry_at(tables.start, row::TABLES, n), start)
+        range_at(words, entry_at(tables.start, List::Tables, n), start)
     }
 }
 
@@ -339,7 +338,7 @@ impl<'a> Together<'a> {
         ensures value { result ≡ events_owned self.now.lists.words.now self.now.lists.capacities self.now.lists.counts }
         ensures owns { owner.Owns (right.entries_of self.now.lists.words.now self.now.lists.capacities self.now.lists.counts area.TABLES) (area.of area.EVENTS self.now.lists.counts) owners.new result }
     {
-        let tables = self.lists.run_of(row::TABLES);
+        let tables = self.lists.run_of(List::Tables);
         let mut seen = [false; 65536];
         for i in 0..tables.count as usize {
             let at = tables.start + width::TABLES * i;

@@ -11,7 +11,7 @@ ghost use Rattle.lookup.specs.Given as spec;
 
 use blob::Refusal;
 use format::entry::{EVENT_TEMPLATE, GUID, TEMPLATE_GUID, TEMPLATE_PROVIDER};
-use format::list::{MOST, row, width};
+use format::list::{List, MOST, row, width};
 use format::{Key, kind, list};
 use lists::{Fitted, Lists, Run, Together};
 
@@ -38,14 +38,14 @@ pub fn template_at(
     if (lists.counts[row::TEMPLATES] as u64) < (first as u64) + (count as u64) {
         return Err(bounds::own(10));
     }
-    let start = counts::area_at(lists.capacities, row::TEMPLATES);
+    let start = counts::area_at(lists.capacities, List::Templates);
     let range = Run {
         start,
         first,
         count,
     };
     let key = [provider, offset];
-    Ok(lists::find(lists.words, range, row::TEMPLATES, TEMPLATE_PROVIDER, &key))
+    Ok(lists::find(lists.words, range, List::Templates, TEMPLATE_PROVIDER, &key))
 }
 
 // The number of the template that an event gives, where its GUID was not given before: of the lowest at the event's offset, where its key
@@ -80,7 +80,7 @@ fn guid_of<'a>(words: &'a [u32], list: Run, n: u32) -> &'a [u32]
     requires { spec.Listed list words.now × (n < list.count) }
     ensures { result.now ≡ spec.guid_of words.now list n }
 {
-    let from = lists::entry_at(list.start, row::TEMPLATES, n) + TEMPLATE_GUID;
+    let from = lists::entry_at(list.start, List::Templates, n) + TEMPLATE_GUID;
     let to = from + GUID;
     &words[from..to]
 }
@@ -112,7 +112,7 @@ fn next_new(
     ensures behind { spec.behind events list result }
 {
     for number in events.first..events.first + events.count {
-        let at = lists::entry_at(events.start, row::EVENTS, number);
+        let at = lists::entry_at(events.start, List::Events, number);
         if let Some(n) = fresh(words, at, templates, key, marks) {
             mark(words, list, guid_of(words, list, n), marks);
             return Some((n, lists::behind(events, number)));
@@ -128,7 +128,7 @@ fn next_provider(together: &Together, providers: Run, guid: &[u32]) -> Option<Wa
     ensures value { result ≡ spec.next_provider together.now.lists.words.now together.now.lists.capacities together.now.lists.counts guid.now providers }
     ensures arrived { spec.arrived together.now.lists.words.now (runs.run_of together.now.lists.capacities together.now.lists.counts (area.place area.TEMPLATES)) providers result }
 {
-    let p = lists::find(together.lists.words, providers, row::PROVIDERS, 0, guid)?;
+    let p = lists::find(together.lists.words, providers, List::Providers, 0, guid)?;
     let fitted = Fitted {
         lists: together.lists,
     };
@@ -157,7 +157,7 @@ fn advance(
     ensures onward { spec.onward together.now.lists.words.now (runs.run_of together.now.lists.capacities together.now.lists.counts (area.place area.TEMPLATES)) result }
 {
     let words = together.lists.words;
-    let list = together.lists.run_of(row::TEMPLATES);
+    let list = together.lists.run_of(List::Templates);
     let mut at = walk;
     // No count: a turn ends it or comes to a provider behind.
     loop {
@@ -193,7 +193,7 @@ fn fill(together: &Together, walk: Walk, guid: &[u32], key: &[u32], n: u32, guid
     ensures { guids.new ≡ laid guids.old 0 (flat (spec.guid_of together.now.lists.words.now (runs.run_of together.now.lists.capacities together.now.lists.counts (area.place area.TEMPLATES)))
         (spec.new_of together.now.lists.words.now together.now.lists.capacities together.now.lists.counts guid.now key.now spec.unset walk)) }
 {
-    let list = together.lists.run_of(row::TEMPLATES);
+    let list = together.lists.run_of(List::Templates);
     let mut marks = [false; 65536];
     let mut at = walk;
     for i in 0..n as usize {
@@ -257,7 +257,7 @@ pub fn templates_for(lists: &Lists, key: Key, guids: &mut [u32]) -> Result<u32, 
     let together = lists.fit_together()?;
     let g = key.guid;
     let guid = [g.a, g.b, g.c, g.d];
-    let providers = together.lists.run_of(row::PROVIDERS);
+    let providers = together.lists.run_of(List::Providers);
     let Some(walk) = next_provider(&together, providers, &guid) else {
         return Ok(0);
     };

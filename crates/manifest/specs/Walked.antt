@@ -1,16 +1,15 @@
 -- The walk over the providers that are left: what they need.
 use Rattle.std.specs.Prelude.{ℕ, ◌+◌, ◌-◌, ◌<◌, ◌≡◌, refl, Ok, Err}
 use Rattle.std.proofs.Math.Path.{ap}
-use Rattle.std.proofs.Common.{sym, ◌∙◌}
+use Rattle.std.proofs.Common.{sym}
 use mathlib.Core.List.{List}
 use Rattle.blob.specs.declared.Refusal.{Refusal}
-use Rattle.blob.specs.Reading.{Outcome, done, refused, run, many}
-use Rattle.blob.proofs.Laws.{not_fine, told_more, many-refused}
+use Rattle.blob.specs.Reading.{done, refused, run, many}
+use Rattle.blob.proofs.Laws.{told_more, many-refused}
 use Rattle.format.specs.Definition.{step}
-use Rattle.format.specs.Area.{none}
 use Rattle.format.specs.Provider.{Provider}
 use Rattle.format.specs.Crim.{described_at}
-use Rattle.format.specs.Steps.Needs.{needs_of, plus, needs_all, provider_read, providers_read}
+use Rattle.format.specs.Steps.Needs.{needs_of, plus, needs_all, providers_read}
 
 module _ (s : List ℕ) (left at : ℕ) (h : 0 < left) where
   pub needs_more : (p : Provider) → run (described_at at) s ≡ done p → (ns ms : List ℕ) → ms ≡ plus ns (needs_of p)

@@ -4,12 +4,13 @@
 ghost use Rattle.std.specs.Prelude.{◌≡◌, ◌+◌, ◌≤◌, length};
 ghost use Rattle.blob.specs.Le.{le};
 ghost use Rattle.blob.specs.Reading.{run, done, verdict};
+ghost use Rattle.format.specs.Named.{number_of};
 ghost use Rattle.format.specs.Provider.{wevt_at};
 ghost use Rattle.format.specs.Crim.{described_at};
 ghost use Rattle.provided.specs.Provided.{ProviderRoom, ProviderStored};
 
-use format::list::{AREAS, width};
-use format::{Wevt, list};
+use format::Wevt;
+use format::list::{AREAS, List, width};
 
 // The header of the WEVT of a provider that is known to be fine, by the place of its descriptor in the block.
 fn wevt_of(b: &[u8], at: usize) -> Wevt
@@ -30,20 +31,20 @@ fn wevt_of(b: &[u8], at: usize) -> Wevt
 pub fn fill(
     b: &[u8],
     at: usize,
-    list: u32,
+    list: List,
     number: u32,
     before: &mut [u32; AREAS],
     area: &mut [u32],
 ) -> usize
     requires at_in_bounds { (at + 20 ≤ length b.now) × (length b.now ≤ 16777216) × (verdict (run (described_at at) b.now) ≡ Ok tt) }
-    requires provider_room { ProviderRoom list number before.old (run (described_at at) b.now) area.old }
-    ensures { ProviderStored list number before.old (run (described_at at) b.now) area.old result before.new area.new }
+    requires provider_room { ProviderRoom (number_of list) number before.old (run (described_at at) b.now) area.old }
+    ensures { ProviderStored (number_of list) number before.old (run (described_at at) b.now) area.old result before.new area.new }
 {
     let v = wevt_of(b, at);
     let offset = blob::word(b, at + 16);
     let start = offset as usize + 20;
     match list {
-        list::PROVIDERS => {
+        List::Providers => {
             let g = words::guid_at(b, at);
             let entry = [
                 g.a,
@@ -59,11 +60,11 @@ pub fn fill(
             words::put(area, 0, &entry);
             width::PROVIDERS
         }
-        list::DESCRIPTORS => fillers::fill_descriptors(b, start, v.descriptors, area),
-        list::UNKNOWN2 => {
+        List::Descriptors => fillers::fill_descriptors(b, start, v.descriptors, area),
+        List::Unknown2 => {
             fillers::fill_unknown2(b, start + 8 * (v.descriptors as usize), v.unknown2, area)
         }
-        list::UNKNOWN => fillers::fill_unknown(b, start, v.descriptors, number, area),
+        List::Unknown => fillers::fill_unknown(b, start, v.descriptors, number, area),
         _ => fillers::fill_tables(b, start, v.descriptors, list, number, before, area),
     }
 }

@@ -8,7 +8,7 @@ ghost use Rattle.std.specs.Prelude.{◌≡◌, ℕ, ◌+◌, ◌*◌, ◌≤◌,
 ghost use Rattle.format.specs.Area.{AREAS, WIDEST};
 ghost use Rattle.replay.specs.Off.{off};
 
-use format::list::{AREAS, WIDEST};
+use format::list::{AREAS, List, WIDEST};
 use std::array;
 
 // Standard input and standard output, as the system numbers them. Printing by std would rest on two more functions of the C library.
@@ -61,22 +61,22 @@ fn fetch(to: &mut [u32]) -> usize
     got
 }
 
-// The words of so many entries of the list of a row.
-fn size(n: u32, row: usize) -> usize
-    requires { (n ≤ 64) × (row < AREAS) }
+// The words of so many entries of a list.
+fn size(n: u32, list: List) -> usize
+    requires { n ≤ 64 }
     ensures { result ≤ 64 * WIDEST }
 {
-    (n as usize) * counts::width_of(row)
+    (n as usize) * list.width()
 }
 
-// Lays the words of n entries of the list of a row into its area. False if the data ends before, or the area is too small.
-fn fetch_list(words: &mut [u32], from: usize, n: u32, row: usize) -> bool
-    requires { (from + 64 * WIDEST ≤ length words.old) × (row < AREAS) }
+// Lays the words of n entries of a list into its area. False if the data ends before, or the area is too small.
+fn fetch_list(words: &mut [u32], from: usize, n: u32, list: List) -> bool
+    requires { from + 64 * WIDEST ≤ length words.old }
 {
     if CAPACITY < n {
         return false;
     }
-    let end = from + size(n, row);
+    let end = from + size(n, list);
     fetch(&mut words[from..end]) == 4 * (end - from)
 }
 
@@ -85,11 +85,11 @@ fn fetch_lists(told: &[u32; TOLD], words: &mut [u32]) -> bool
     requires { AREAS * (64 * WIDEST) ≤ length words.old }
 {
     let mut from = 0;
-    for row in 0..AREAS {
-        if !fetch_list(words, from, told[7 + row], row) {
+    for (i, list) in List::ALL.iter().enumerate() {
+        if !fetch_list(words, from, told[7 + i], *list) {
             return false;
         }
-        from += size(CAPACITY, row);
+        from += size(CAPACITY, *list);
     }
     true
 }

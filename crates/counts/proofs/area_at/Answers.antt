@@ -1,7 +1,10 @@
 -- Row by row.
+use Prim.Native.Nat.{◌<◌}
 use mathlib.Core.Path.{refl}
+use Rattle.std.proofs.lemmas.List.{get_or-take}
 use Rattle.format.specs.Area.{rows}
 use Rattle.format.specs.Answer.{areas}
+use Rattle.format.proofs.Theorems.Rowed.{place-at}
 use Rattle.counts.specs.Short.{areas-next}
 use native.Mathlib.Omega.{arith}
 use Rattle.counts.proofs.area_at.Goals as goal
@@ -11,5 +14,7 @@ loop-i-init c = (unfold areas in refl, omega arith)
 
 pub loop-i-preserved : goal.loop-i-preserved
 loop-i-preserved c =
-    let more = c.words_of-sum.ensures in
-    (omega (arith, more.0, areas-next rows c.args.c c.loop-i.i (omega arith) (omega arith)), omega (arith, more.1))
+    let i = c.loop-i.i in
+    let before : i < c.row.result = omega arith in
+    let more = rw (get_or-take _ _ _ _ before, place-at i (omega arith)) at c.words_of-sum.ensures in
+    (omega (arith, more.0, areas-next rows c.args.c i (omega arith) (omega arith)), omega (arith, more.1))

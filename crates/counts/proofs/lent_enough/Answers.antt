@@ -1,5 +1,6 @@
 -- What is left of the rows decides.
 use mathlib.Core.Path.{sym, ◌∙◌}
+use Rattle.format.proofs.Theorems.Rowed.{place-at}
 use Rattle.counts.specs.Short.{lent-more, lent-stop, lent-end}
 use native.Mathlib.Omega.{arith}
 use Rattle.counts.proofs.lent_enough.Goals as goal
@@ -12,7 +13,7 @@ returns-then-c-i-gt-MOST c =
 pub loop-i-preserved : goal.loop-i-preserved
 loop-i-preserved c =
     let m = c.loop-i in
-    let more = c.words_of-sum.ensures in
+    let more = rw (place-at m.i c.loop-i-test.true) at c.words_of-sum.ensures in
     (omega (arith, more.1), sym (lent-more _ (omega arith) m.i m.sum _ (omega arith) c.if-c-i-gt-MOST.false _ more.0) ∙ m.invariant.1)
 
 pub returns : goal.returns

@@ -6,7 +6,7 @@ use native.Mathlib.Omega.{arith}
 use Rattle.counts.proofs.words_of.Goals as goal
 
 pub overflow_mul-result : goal.overflow_mul-result
-overflow_mul-result c = omega (arith, words-most c.args.entries c.width_of.result (omega arith) c.width_of.ensures.1)
+overflow_mul-result c = omega (arith, words-most c.args.entries c.width.result (omega arith) c.width.ensures.1)
 
 pub returns : goal.returns
-returns c = (ap (λ w. c.args.entries * w) c.width_of.ensures.0, words-most c.args.entries c.width_of.result (omega arith) c.width_of.ensures.1)
+returns c = (ap (λ w. c.args.entries * w) c.width.ensures.0, words-most c.args.entries c.width.result (omega arith) c.width.ensures.1)

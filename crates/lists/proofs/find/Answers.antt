@@ -10,16 +10,16 @@ loop-number-init c = ap (position (has c.args.from c.args.key.now) c.args.run.fi
 
 pub returns-then-same : goal.returns-then-same
 returns-then-same c =
-    let k = rw (← c.width_of-width.ensures.0) at c.requires.row_lt_areas.1 in
-    rw (← c.width_of-width.ensures.0)
-    (sym (ap found (c.loop-number.invariant ∙ position_here c.args.words.now c.args.key.now c.width_of-width.result c.args.from k _ _ _ c.loop-number-test.true (sym c.if-same.true ∙ c.same.ensures))))
+    let k = rw (← c.width-width.ensures.0) at c.requires.key_in_entry in
+    rw (← c.width-width.ensures.0)
+    (sym (ap found (c.loop-number.invariant ∙ position_here c.args.words.now c.args.key.now c.width-width.result c.args.from k _ _ _ c.loop-number-test.true (sym c.if-same.true ∙ c.same.ensures))))
 
 pub loop-number-preserved : goal.loop-number-preserved
 loop-number-preserved c =
-    let k = rw (← c.width_of-width.ensures.0) at c.requires.row_lt_areas.1 in
-    c.loop-number.invariant ∙ position-behind c.args.words.now c.args.key.now c.width_of-width.result c.args.from k _ _ _ c.loop-number-test.true (sym c.if-same.false ∙ c.same.ensures)
+    let k = rw (← c.width-width.ensures.0) at c.requires.key_in_entry in
+    c.loop-number.invariant ∙ position-behind c.args.words.now c.args.key.now c.width-width.result c.args.from k _ _ _ c.loop-number-test.true (sym c.if-same.false ∙ c.same.ensures)
 
 pub returns : goal.returns
 returns c =
-    rw (← c.width_of-width.ensures.0)
-    (sym (ap found (c.loop-number.invariant ∙ position-none (has c.args.from c.args.key.now) c.args.words.now c.width_of-width.result _ _ _ c.loop-number-test.false)))
+    rw (← c.width-width.ensures.0)
+    (sym (ap found (c.loop-number.invariant ∙ position-none (has c.args.from c.args.key.now) c.args.words.now c.width-width.result _ _ _ c.loop-number-test.false)))

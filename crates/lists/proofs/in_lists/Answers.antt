@@ -19,4 +19,4 @@ returns-in_default c =
 pub returns : goal.returns
 returns c =
     let k = one_of-eight c.in-Some.kind in
-    rw (← c.in-Some.ensures) (simp (lt-ltb _ _ c.if-c-provider.false, le-leb _ _ k.0, le-leb _ _ k.1, c.row_of-row.ensures.0))
+    rw (← c.in-Some.ensures) (simp (lt-ltb _ _ c.if-c-provider.false, le-leb _ _ k.0, le-leb _ _ k.1, c.row.ensures.0, c.list_of-list.ensures))

@@ -26,7 +26,7 @@ returns-then-lists-first c =
 pub find-requires : goal.find-requires
 find-requires c =
     let h = inside c.args.lists.now.words.now c.args.lists.now.capacities c.args.lists.now.counts (fits _ _ _ c.in_ok-fit.ensures.1) (place TEMPLATES) in
-    record { row_lt_areas = (omega arith, omega arith); few = (omega (arith, c.area_at-start.ensures.0, c.if-lists-first.false), omega (arith, c.if-lists-first.false)) }
+    record { key_in_entry = omega arith; few = (omega (arith, c.area_at-start.ensures.0, c.if-lists-first.false), omega (arith, c.if-lists-first.false)) }
 
 pub returns : goal.returns
 returns c =

@@ -1,6 +1,6 @@
 -- 7, then what the header, the providers and their needs give.
 use Prim.Native.Nat.{ℕ, ◌+◌, ◌*◌}
-use mathlib.Core.Path.{refl, ap, sym, ◌∙◌}
+use mathlib.Core.Path.{refl, ap, ◌∙◌}
 use mathlib.Core.List.{List}
 use native.Mathlib.Omega.{arith}
 use lib.ListN.{length-take}
@@ -10,7 +10,7 @@ use Rattle.blob.proofs.Laws.{answer-refused, handed_on, result_found, result_ref
 use Rattle.format.specs.Answer.{answer, needing}
 use Rattle.format.specs.Crim.{header}
 use Rattle.format.proofs.Theorems.Needed.{needed}
-use Rattle.manifest.specs.Read.{needed_as, block-long, block-headless, block-headed, block_refused, block-done, is_header, no-header_read, sized}
+use Rattle.manifest.specs.Read.{block-long, block-headless, block-headed, block_refused, block-done, is_header, no-header_read, sized}
 use Rattle.manifest.proofs.needed.Goals as goal
 
 pub returns-then-bytes-gt-LONGEST : goal.returns-then-bytes-gt-LONGEST

@@ -3,5 +3,5 @@ use Rattle.std.proofs.Common.{◌*◌, ◌≤◌}
 use Rattle.format.specs.Area.{WIDEST}
 use Rattle.replay.proofs.fetch_lists.Given as goal
 
-abbrev pub invariant-loop-row : goal.invariant-loop-row
-invariant-loop-row l = l.from ≤ 64 * WIDEST * l.row
+abbrev pub invariant-loop-i : goal.invariant-loop-i
+invariant-loop-i l = l.from ≤ 64 * WIDEST * l.i

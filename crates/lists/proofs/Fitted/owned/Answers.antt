@@ -16,7 +16,7 @@ use Rattle.lists.proofs.Fitted.owned.Goals as goal
 pub returns-in_default : goal.returns-in_default
 returns-in_default c =
     let e = ap (λ r. found (position (has TABLE_PROVIDER (c.args.provider ∷ number c.args.kind ∷ [])) r.first (entries (width TABLES) r c.args.self.now.lists.words.now))) (sym c.run_of-tables.ensures) ∙ sym (rw c.number.ensures.0 at c.find.ensures) ∙ c.in_default.is in
-    rw (c.area_at-start.ensures.0 ∙ ap (λ i. areas rows (take i c.args.self.now.lists.capacities)) c.row_of.ensures.0, table_none c.args.self.now.lists.words.now c.args.self.now.lists.capacities c.args.self.now.lists.counts c.args.self.now.fits c.args.provider (number c.args.kind) e)
+    rw (c.area_at-start.ensures.0 ∙ ap (λ l. areas rows (take (place l) c.args.self.now.lists.capacities)) c.list_of.ensures, table_none c.args.self.now.lists.words.now c.args.self.now.lists.capacities c.args.self.now.lists.counts c.args.self.now.fits c.args.provider (number c.args.kind) e)
 
 pub entry_at-requires : goal.entry_at-requires
 entry_at-requires c =
@@ -32,7 +32,7 @@ pub returns : goal.returns
 returns c =
     let e = ap (λ r. found (position (has TABLE_PROVIDER (c.args.provider ∷ number c.args.kind ∷ [])) r.first (entries (width TABLES) r c.args.self.now.lists.words.now))) (sym c.run_of-tables.ensures) ∙ sym (rw c.number.ensures.0 at c.find.ensures) ∙ c.in-Some.is in
     c.range_at.ensures
-    ∙ rw (c.entry_at.ensures, ap (λ r. r.start) c.run_of-tables.ensures, c.area_at-start.ensures.0 ∙ ap (λ i. areas rows (take i c.args.self.now.lists.capacities)) c.row_of.ensures.0, (table-found c.args.self.now.lists.words.now c.args.self.now.lists.capacities c.args.self.now.lists.counts c.args.self.now.fits c.args.provider (number c.args.kind) _ e).0)
+    ∙ rw (c.entry_at.ensures, ap (λ r. r.start) c.run_of-tables.ensures, c.area_at-start.ensures.0 ∙ ap (λ l. areas rows (take (place l) c.args.self.now.lists.capacities)) c.list_of.ensures, (table-found c.args.self.now.lists.words.now c.args.self.now.lists.capacities c.args.self.now.lists.counts c.args.self.now.fits c.args.provider (number c.args.kind) _ e).0)
 
 pub find-requires-clause-few : goal.find-requires-clause-few
 find-requires-clause-few c =
