@@ -14,7 +14,7 @@ ghost use Rattle.indexer.specs.Listed as spec;
 
 use blob::Refusal;
 use format::entry::EVENT_TEMPLATE;
-use format::kind;
+use format::kind::Kind;
 use format::list::{List, row, width};
 use lists::{Fitted, Lists, NOBODY, Run, Together};
 
@@ -150,7 +150,7 @@ fn templates_of(fitted: &Fitted, known: Known, provider: u32) -> Known
     if known.provider == provider {
         return known;
     }
-    let templates = fitted.owned(provider, kind::TTBL);
+    let templates = fitted.owned(provider, Kind::Ttbl);
     Known {
         provider,
         templates,
@@ -189,7 +189,7 @@ fn resolve(together: &Together, owners: &mut [u32; 65536])
     let count = together.lists.counts[row::EVENTS];
     let mut known = Known {
         provider: 0,
-        templates: fitted.owned(0, kind::TTBL),
+        templates: fitted.owned(0, Kind::Ttbl),
     };
     for i in 0..count as usize {
         known = templates_of(&fitted, known, owners[i]);

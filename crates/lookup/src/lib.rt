@@ -11,8 +11,9 @@ ghost use Rattle.lookup.specs.Given as spec;
 
 use blob::Refusal;
 use format::entry::{EVENT_TEMPLATE, GUID, TEMPLATE_GUID, TEMPLATE_PROVIDER};
+use format::kind::Kind;
 use format::list::{List, MOST, row, width};
-use format::{Key, kind, list};
+use format::{Key, list};
 use lists::{Fitted, Lists, Run, Together};
 
 // Where the lookup by key stands: the events that are left of a provider, the templates that they are resolved in, and the providers
@@ -132,8 +133,8 @@ fn next_provider(together: &Together, providers: Run, guid: &[u32]) -> Option<Wa
     let fitted = Fitted {
         lists: together.lists,
     };
-    let events = fitted.owned(p, kind::EVNT);
-    let templates = fitted.owned(p, kind::TTBL);
+    let events = fitted.owned(p, Kind::Evnt);
+    let templates = fitted.owned(p, Kind::Ttbl);
     let behind = lists::behind(providers, p);
     Some(Walk {
         events,
