@@ -70,23 +70,22 @@ module _ (ns : List ℕ) (i : ℕ) where
   numbers-none h = rw (drop_of_length-le ns h)
 
 -- the bytes of the unknown2 counts of so many providers, from one on, by its number
-module _ (words : List ℕ) (n at i : ℕ) where
-  abbrev pub counts_left : List ℕ
-  counts_left = flat form (unknown2s (rest (width PROVIDERS) words n at i))
-
 module _ (words : List ℕ) (n at : ℕ) where
-  pub counts-all : counts_left words n at 0 ≡ count_bytes words n at
+  abbrev pub counts_left : ℕ → List ℕ
+  counts_left i = flat form (unknown2s (rest (width PROVIDERS) words n at i))
+
+  pub counts-all : counts_left 0 ≡ count_bytes words n at
   counts-all = ap (λ (es : List Entry). flat form (unknown2s es)) (rest_all (width PROVIDERS) words n at)
 
-  pub counts-next : (i : ℕ) → i < n → Split (counts_left words n at i) (form (get_or words (at + width PROVIDERS * i + UNKNOWN2_COUNT) 0)) (counts_left words n at (i + 1))
+  pub counts-next : (i : ℕ) → i < n → Split (counts_left i) (form (get_or words (at + width PROVIDERS * i + UNKNOWN2_COUNT) 0)) (counts_left (i + 1))
   unfolding flat
   counts-next i h =
       record {
         equal = ap (λ (es : List Entry). flat form (unknown2s es)) (rest_more (width PROVIDERS) words n at i h)
-            ∙ ap (λ m. form m ++ counts_left words n at (i + 1)) (word_at (width PROVIDERS) words UNKNOWN2_COUNT (at + width PROVIDERS * i) (omega arith));
+            ∙ ap (λ m. form m ++ counts_left (i + 1)) (word_at (width PROVIDERS) words UNKNOWN2_COUNT (at + width PROVIDERS * i) (omega arith));
       }
 
-  pub counts-none : (i : ℕ) → n ≤ i → counts_left words n at i ≡ []
+  pub counts-none : (i : ℕ) → n ≤ i → counts_left i ≡ []
   unfolding flat
   counts-none i h = ap (λ (es : List Entry). flat form (unknown2s es)) (rest_none (width PROVIDERS) words n at i h)
 
