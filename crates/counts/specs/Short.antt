@@ -1,7 +1,7 @@
 -- What lists that need so much get of so much: 9 for the first that is too small; and the sums over the rows, row by row.
 use Prim.{tt}
 use Rattle.std.specs.Prelude.{ℕ, zero, suc, ◌+◌, ◌*◌, ◌≤◌, ◌<◌, ◌≡◌, refl, false, ◌&&◌, List, [], ◌∷◌, map, leb, ltb, length, get_or, drop, take, set, Ok, Err, Result}
-use Rattle.std.proofs.Common.{mul-le-mul, suc-add, add_assoc, add-zero, arith, ap, sym, ◌∙◌, drop_of_length-le, le-leb, leb-true, ltb-true}
+use Rattle.std.proofs.Common.{mul-le-mul, suc-add, add_assoc, add-zero, arith, ap, sym, ◌∙◌, drop_of_length-le, le-leb, ltb-true}
 use Rattle.std.proofs.lemmas.Bool.{lt-leb}
 use Rattle.blob.specs.declared.Refusal.{Refusal}
 use Rattle.blob.specs.Places.{Each}

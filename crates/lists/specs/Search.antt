@@ -69,22 +69,6 @@ module _ (p : Entry → Bool) (words : List ℕ) (width n at i : ℕ) where
   unfolding every
   every_all h = rw (rest_none width words n at i h)
 
--- Of entries that are tested, those that are left decide: where the next one passes, where it does not, and where none is left.
-module _ (p : Entry → Bool) (words : List ℕ) (width left at : ℕ) where
-  every_more : 0 < left → every p (entries_from width left at words) ≡ (p (take width (drop at words)) && every p (entries_from width (left - 1) (at + width) words))
-  unfolding every entries_from
-  every_more h = let m : left ≡ suc (left - 1) = omega arith in ap (λ (l : ℕ). every p (entries_from width l at words)) m
-
-  pub every_here : 0 < left → p (take width (drop at words)) ≡ true → every p (entries_from width left at words) ≡ every p (entries_from width (left - 1) (at + width) words)
-  every_here h e = every_more h ∙ rw e
-
-  pub every-not : 0 < left → p (take width (drop at words)) ≡ false → every p (entries_from width left at words) ≡ false
-  every-not h e = every_more h ∙ rw e
-
-  pub every-none : left ≤ 0 → every p (entries_from width left at words) ≡ true
-  unfolding every entries_from
-  every-none h = let m : left ≡ 0 = omega arith in rw m
-
 -- two tests at once
 and_swap : (a b c d : Bool) → ((a && b) && (c && d)) ≡ ((a && c) && (b && d))
 and_swap true b true d = refl

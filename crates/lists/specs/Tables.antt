@@ -23,7 +23,6 @@ use Rattle.lists.specs.Search.{position-same, has-two, position-found, select-fo
 
 -- a TTBL's range of all templates, as a run
 module _ (words : List ℕ) (templates : Run) (z : templates.first ≡ 0) (t : Entry) (h : word_of TABLE_FIRST t + word_of TABLE_COUNT t ≤ templates.count) where
-
   pub range-entries : range_of (entries (width TEMPLATES) templates words) t ≡ entries (width TEMPLATES) (range_in templates.start (t ∷ [])) words
   range-entries =
       let s : templates.start + width TEMPLATES * templates.first ≡ templates.start = omega arith in

@@ -288,7 +288,6 @@ guid-length words list n f h = simp (length-take, length-drop) (omega (arith, f)
 
 -- What is given, by the number that was counted: too many for the lent list, or all.
 module _ (gs : List Entry) (lent : List ℕ) (n : ℕ) (e : n ≡ min (length gs) (length lent / GUID + 1)) where
-
   pub give_all : n ≤ length lent / GUID → (room_for lent gs ≡ done gs) × (n ≡ length gs) × (GUID * length gs ≤ length lent)
   give_all h = let l : length gs ≤ length lent / GUID = omega arith in (rw (le-leb _ _ l), omega arith, omega arith)
 

@@ -1,5 +1,5 @@
 -- One map more: what it makes of the maps that are left, of the count of entries, and of the words of lists 7 and 8.
-use Rattle.std.specs.Prelude.{ℕ, ◌+◌, ◌-◌, ◌*◌, ◌≤◌, ◌<◌, ◌≡◌, refl, List, ◌∷◌, ◌++◌, length, Ok, Err, Result}
+use Rattle.std.specs.Prelude.{ℕ, ◌+◌, ◌-◌, ◌*◌, ◌≤◌, ◌<◌, ◌≡◌, refl, List, ◌∷◌, ◌++◌, length, Ok, Result}
 use Rattle.std.proofs.Math.Path.{ap}
 use Rattle.std.proofs.Common.{sym, ◌∙◌}
 use Rattle.blob.specs.declared.Refusal.{Refusal}
@@ -14,7 +14,7 @@ use Rattle.format.specs.Steps.Needs.{total, entry_count}
 use Rattle.format.proofs.Theorems.Counting as counting
 use Rattle.format.specs.Lists.{map_words, map_entry_words, map_list}
 use Rattle.format.specs.declared.Map.{Map}
-use Rattle.map.specs.Decides.{entries, entries-fine, Told, is_map, is_refused}
+use Rattle.map.specs.Decides.{entries, entries-fine, Told, is_map}
 use Rattle.map.specs.Listed.{listed_at, listed-told}
 
 -- what reading the maps that are left finds

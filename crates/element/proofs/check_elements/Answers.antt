@@ -1,7 +1,6 @@
 -- What is left decides: the answer for the elements that are left, with the counts so far, is that for all, and their descriptors are
 -- fine.
-use Prim.Native.Nat.{◌+◌, ◌-◌, ◌*◌}
-use mathlib.Core.Path.{◌≡◌, refl, sym, ◌∙◌}
+use mathlib.Core.Path.{refl, sym, ◌∙◌}
 use native.Mathlib.Omega.{arith}
 use Rattle.blob.proofs.Laws.{handed_on, many_next, one_on, refused-value}
 use Rattle.format.specs.Definition.{step}

@@ -1,6 +1,5 @@
 -- What is left decides: the answer for the providers that are left, with the needs so far, is that for all.
-use Prim.Native.Nat.{◌+◌, ◌-◌, ◌*◌}
-use mathlib.Core.Path.{◌≡◌, ap, sym, ◌∙◌, subst}
+use mathlib.Core.Path.{ap, sym, ◌∙◌, subst}
 use native.Mathlib.Omega.{arith}
 use Rattle.blob.proofs.Laws.{handed_on, one_on, result_found, result_refused}
 use Rattle.format.specs.Steps.Needs.{modest, needs_all, providers_read}
