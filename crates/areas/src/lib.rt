@@ -15,11 +15,11 @@ ghost use Rattle.areas.specs.Areas.{providers, providers_in, roomy};
 use format::list::{AREAS, List};
 
 // Stores what a list has of n providers that are fine.
-fn fill(b: &[u8], n: u32, list: List, area: &mut [u32])
+fn fill(b: &[u8], n: u32, list: u32, area: &mut [u32])
     requires n_in_bounds { (16 + 20 * n ≤ length b.now) × (length b.now ≤ 16777216) }
     requires b_value { verdict (run (providers n) b.now) ≡ Ok tt }
-    requires room { parts.Room (parts.parts (number_of list) 0 none (providers_in n b.now)) (parts.passed_all (number_of list) none (providers_in n b.now)) area.old }
-    ensures { area.new ≡ laid area.old 0 (parts.parts (number_of list) 0 none (providers_in n b.now)) }
+    requires room { parts.Room (parts.parts list 0 none (providers_in n b.now)) (parts.passed_all list none (providers_in n b.now)) area.old }
+    ensures { area.new ≡ laid area.old 0 (parts.parts list 0 none (providers_in n b.now)) }
 {
     let mut before = [0; AREAS];
     let mut to = 0;
@@ -34,7 +34,7 @@ fn fill(b: &[u8], n: u32, list: List, area: &mut [u32])
 fn fill_area(
     b: &[u8],
     n: u32,
-    list: List,
+    list: u32,
     words: &mut [u32],
     from: usize,
     size: usize,
@@ -43,10 +43,10 @@ fn fill_area(
     requires n_in_bounds { (16 + 20 * n ≤ length b.now) × (length b.now ≤ 16777216) }
     requires b_value { verdict (run (providers n) b.now) ≡ Ok tt }
     requires size_in_bounds { from + size ≤ length words.old }
-    requires b_len_bound { (length (parts.parts (number_of list) 0 none (providers_in n b.now)) ≤ size) × parts.Counted (parts.passed_all (number_of list) none (providers_in n b.now)) }
-    requires b_value_2 { need ≡ 0 → parts.parts (number_of list) 0 none (providers_in n b.now) ≡ [] }
+    requires b_len_bound { (length (parts.parts list 0 none (providers_in n b.now)) ≤ size) × parts.Counted (parts.passed_all list none (providers_in n b.now)) }
+    requires b_value_2 { need ≡ 0 → parts.parts list 0 none (providers_in n b.now) ≡ [] }
     ensures value { result ≡ from + size }
-    ensures words_after { words.new ≡ laid words.old from (parts.parts (number_of list) 0 none (providers_in n b.now)) }
+    ensures words_after { words.new ≡ laid words.old from (parts.parts list 0 none (providers_in n b.now)) }
 {
     let to = from + size;
     if need == 0 {
@@ -73,6 +73,6 @@ pub fn fill_areas(
     let mut to = 0;
     for (i, list) in List::ALL.iter().enumerate() {
         let size = counts::words_of(capacities[i], *list);
-        to = fill_area(b, n, *list, words, to, size, needs[i]);
+        to = fill_area(b, n, list.number(), words, to, size, needs[i]);
     }
 }

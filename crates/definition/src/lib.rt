@@ -156,7 +156,7 @@ fn check_records(b: &[u8], kind: Kind, start: usize, n: u32) -> Result<(), Refus
     requires b_len_bound { length b.now ≤ 16777216 }
     ensures { result ≡ verdict (run (rows (number kind) (stride (number kind)) n start) b.now) }
 {
-    let bytes = stride(kind) as usize;
+    let bytes = stride(Some(kind)) as usize;
     let field = name_field(kind);
     let place = name_place(kind);
     for i in 0..n as usize {
@@ -218,7 +218,7 @@ fn fill_records(b: &[u8], kind: Kind, start: usize, n: u32, area: &mut [u32])
     requires n_in_bounds { width DEFINITIONS * n ≤ length area.old }
     ensures { area.new ≡ laid area.old 0 (flat definition_words (values (run (rows (number kind) (stride (number kind)) n start) b.now))) }
 {
-    let bytes = stride(kind) as usize;
+    let bytes = stride(Some(kind)) as usize;
     for i in 0..n as usize {
         let d = definition_of(b, kind, start + bytes * i);
         put_definition(area, width::DEFINITIONS * i, d);

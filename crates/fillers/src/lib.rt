@@ -14,14 +14,13 @@ ghost use Rattle.format.specs.Steps.Parts as parts;
 ghost use Rattle.fillers.specs.Unknown.{words_of};
 ghost use Rattle.format.specs.Area as rows;
 ghost use Rattle.format.specs.Area.{width};
-ghost use Rattle.format.specs.Named.{number_of};
 ghost use Rattle.fillers.specs.Kinds.{headed, kept_at, Stands, has_any};
 ghost use Rattle.fillers.specs.Rows.{only, holds_definitions, has_entries, trailing_of};
 
 use element::{NONE, NUMBERS};
 use format::kind::Kind;
-use format::list::{AREAS, List, row, width};
-use format::{Descriptor, Header};
+use format::list::{AREAS, row, width};
+use format::{Descriptor, Header, list};
 
 // Stores the words of n descriptors that are fine; here and below it hands back how many words they are.
 pub fn fill_descriptors(b: &[u8], start: usize, n: u32, area: &mut [u32]) -> usize
@@ -63,17 +62,17 @@ fn holds_definitions(kind: Kind) -> bool
     }
 }
 
-// Whether tables of a kind have entries in a list. A list that has nothing of tables, here and below, would be taken for the templates', but
-// is never asked for.
-fn has_entries(list: List, kind: Kind) -> bool
-    ensures { result ≡ has_entries (number_of list) (kinds.number kind) }
+// Whether tables of a kind have entries in a list. (A number and no `List`, here and up to `fill_tables`: that one's promise speaks of any
+// number, and of one that is no list's as of the templates'.)
+fn has_entries(list: u32, kind: Kind) -> bool
+    ensures { result ≡ has_entries list (kinds.number kind) }
 {
     match list {
-        List::Tables => true,
-        List::Definitions => holds_definitions(kind),
-        List::Events => matches!(kind, Kind::Evnt),
-        List::Maps => matches!(kind, Kind::Maps),
-        List::Entries => matches!(kind, Kind::Maps),
+        list::TABLES => true,
+        list::DEFINITIONS => holds_definitions(kind),
+        list::EVENTS => matches!(kind, Kind::Evnt),
+        list::MAPS => matches!(kind, Kind::Maps),
+        list::ENTRIES => matches!(kind, Kind::Maps),
         _ => matches!(kind, Kind::Ttbl),
     }
 }
@@ -145,7 +144,7 @@ fn put_table(
 // Stores what a list has of a table of a kind that has entries in it. List 7 counts the entries of its maps, list 12 the templates.
 fn put_rows(
     b: &[u8],
-    list: List,
+    list: u32,
     kind: Kind,
     at: usize,
     h: Header,
@@ -155,27 +154,27 @@ fn put_rows(
 ) -> usize
     requires header_in_bounds { (at + header_length (kinds.number kind) ≤ length b.now) × (length b.now ≤ 16777216) }
     requires b_value { verdict (run (table_at (kinds.number kind) at h) b.now) ≡ Ok tt }
-    requires kind_value { has_entries (number_of list) (kinds.number kind) ≡ true }
-    requires tables_room { parts.TablesRoom (number_of list) number before.old (only (run (table_at (kinds.number kind) at h) b.now)) area.old }
-    ensures { parts.TablesStored (number_of list) number before.old (only (run (table_at (kinds.number kind) at h) b.now)) area.old result before.new area.new }
+    requires kind_value { has_entries list (kinds.number kind) ≡ true }
+    requires tables_room { parts.TablesRoom list number before.old (only (run (table_at (kinds.number kind) at h) b.now)) area.old }
+    ensures { parts.TablesStored list number before.old (only (run (table_at (kinds.number kind) at h) b.now)) area.old result before.new area.new }
 {
     let count = h.count as usize;
     match list {
-        List::Tables => put_table(b, kind, at, h, number, before, area),
-        List::Definitions => {
+        list::TABLES => put_table(b, kind, at, h, number, before, area),
+        list::DEFINITIONS => {
             definition::fill_definitions(b, kind, at, h, area);
             width::DEFINITIONS * count
         }
-        List::Events => {
+        list::EVENTS => {
             event::fill_events(b, at + 16, h.count, area);
             width::EVENTS * count
         }
-        List::Maps => {
+        list::MAPS => {
             before[row::ENTRIES] = map::fill_maps(b, at, h, before[row::ENTRIES], area);
             width::MAPS * count
         }
-        List::Entries => map::fill_entries(b, at, h, area),
-        List::Items => {
+        list::ENTRIES => map::fill_entries(b, at, h, area),
+        list::ITEMS => {
             let first = before[row::TEMPLATES];
             before[row::TEMPLATES] = first + h.count;
             template::fill_items(b, at, h, first, area)
@@ -199,8 +198,8 @@ fn header_of(b: &[u8], at: usize) -> Header
 }
 
 // Whether a list has anything of the table of a kind that is kept at a place.
-fn has_any(list: List, kind: Kind, place: u32) -> bool
-    ensures { result ≡ has_any (number_of list) (kinds.number kind) place }
+fn has_any(list: u32, kind: Kind, place: u32) -> bool
+    ensures { result ≡ has_any list (kinds.number kind) place }
 {
     if place == NONE {
         return false;
@@ -211,7 +210,7 @@ fn has_any(list: List, kind: Kind, place: u32) -> bool
 // Stores what it has.
 fn put_kind(
     b: &[u8],
-    list: List,
+    list: u32,
     kind: Kind,
     place: u32,
     number: u32,
@@ -219,8 +218,8 @@ fn put_kind(
     area: &mut [u32],
 ) -> usize
     requires b_len_bound { (length b.now ≤ 16777216) × Stands b.now (kinds.number kind) place }
-    requires tables_room { parts.TablesRoom (number_of list) number before.old (kept_at b.now (kinds.number kind) place) area.old }
-    ensures { parts.TablesStored (number_of list) number before.old (kept_at b.now (kinds.number kind) place) area.old result before.new area.new }
+    requires tables_room { parts.TablesRoom list number before.old (kept_at b.now (kinds.number kind) place) area.old }
+    ensures { parts.TablesStored list number before.old (kept_at b.now (kinds.number kind) place) area.old result before.new area.new }
 {
     if has_any(list, kind, place) {
         let at = place as usize;
@@ -234,15 +233,15 @@ pub fn fill_tables(
     b: &[u8],
     start: usize,
     n: u32,
-    list: List,
+    list: u32,
     number: u32,
     before: &mut [u32; AREAS],
     area: &mut [u32],
 ) -> usize
     requires n_in_bounds { (start + 8 * n ≤ length b.now) × (length b.now ≤ 16777216) }
     requires b_value { verdict (run (elements_from n start) b.now) ≡ Ok tt }
-    requires tables_room { parts.TablesRoom (number_of list) number before.old (kept (values (run (elements_from n start) b.now))) area.old }
-    ensures { parts.TablesStored (number_of list) number before.old (kept (values (run (elements_from n start) b.now))) area.old result before.new area.new }
+    requires tables_room { parts.TablesRoom list number before.old (kept (values (run (elements_from n start) b.now))) area.old }
+    ensures { parts.TablesStored list number before.old (kept (values (run (elements_from n start) b.now))) area.old result before.new area.new }
 {
     let mut places = [NONE; NUMBERS];
     element::place_tables(b, start, n, &mut places);

@@ -40,17 +40,17 @@ impl List {
         ensures { result ≡ number_of self }
     {
         match self {
-            List::Providers => 1,
-            List::Descriptors => 2,
-            List::Unknown2 => 3,
-            List::Tables => 4,
-            List::Definitions => 5,
-            List::Events => 6,
-            List::Maps => 7,
-            List::Entries => 8,
-            List::Templates => 9,
-            List::Unknown => 10,
-            List::Items => 12,
+            List::Providers => PROVIDERS,
+            List::Descriptors => DESCRIPTORS,
+            List::Unknown2 => UNKNOWN2,
+            List::Tables => TABLES,
+            List::Definitions => DEFINITIONS,
+            List::Events => EVENTS,
+            List::Maps => MAPS,
+            List::Entries => ENTRIES,
+            List::Templates => TEMPLATES,
+            List::Unknown => UNKNOWN,
+            List::Items => ITEMS,
         }
     }
 
@@ -93,7 +93,30 @@ impl List {
     }
 }
 
-// The number of the list that is lent singly, and so has no area.
+// The numbers.
+pub const PROVIDERS: u32 = 1;
+
+pub const DESCRIPTORS: u32 = 2;
+
+pub const UNKNOWN2: u32 = 3;
+
+pub const TABLES: u32 = 4;
+
+pub const DEFINITIONS: u32 = 5;
+
+pub const EVENTS: u32 = 6;
+
+pub const MAPS: u32 = 7;
+
+pub const ENTRIES: u32 = 8;
+
+pub const TEMPLATES: u32 = 9;
+
+pub const UNKNOWN: u32 = 10;
+
+pub const ITEMS: u32 = 12;
+
+// Lent singly, and so without an area.
 pub const GUIDS: u32 = 11;
 
 // Which row is a list's: where its number stands among those of all lists.

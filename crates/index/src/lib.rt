@@ -86,7 +86,7 @@ pub fn short(lent: usize) -> Refusal
 fn pass(bytes: &[u8], at: usize, width: Width) -> Result<usize, Refusal>
     ensures { result ≡ spec.behind_number (number_at (most width) bytes.now at) }
 {
-    match number::pass(bytes, at, width) {
+    match number::pass(bytes, at, width.most()) {
         Ok(next) => Ok(next),
         Err(f) => Err(fault(f.code(), at)),
     }

@@ -1,7 +1,7 @@
 // Numbers in seven-bit groups: one coder for all widths.
 #![tactic(auto)]
 
-ghost use Rattle.std.specs.Prelude.{◌≡◌, ◌+◌, ◌≤◌, length};
+ghost use Rattle.std.specs.Prelude.{◌≡◌, true, ◌+◌, ◌≤◌, length};
 ghost use Rattle.blob.specs.Reading.{done};
 ghost use Rattle.blob.specs.Laid.{laid};
 ghost use Rattle.number.specs.Number as right;
@@ -66,12 +66,13 @@ fn last(byte: u8, limit: u64, first: bool) -> bool
     u64::from(byte) <= limit && (first || byte != 0)
 }
 
-// The place behind the number at a place, if it is one of a width. No value is worked out: the groups before the last can't take it past
-// a width of ones only.
-pub fn pass(bytes: &[u8], at: usize, width: Width) -> Result<usize, Fault>
-    ensures { result ≡ spec.passed (right.number_at (spec.most width) bytes.now at) }
+// The place behind the number at a place, if it is one of a width, told by the largest number that has it. No value is worked out: the groups
+// before the last can't take it past a width of ones only.
+pub fn pass(bytes: &[u8], at: usize, most: u64) -> Result<usize, Fault>
+    requires { spec.ones right.LONGEST most ≡ true }
+    ensures { result ≡ spec.passed (right.number_at most bytes.now at) }
 {
-    let mut limit = width.most();
+    let mut limit = most;
     for k in 0..LONGEST {
         let i = at + k;
         if bytes.len() <= i {

@@ -4,13 +4,12 @@
 ghost use Rattle.std.specs.Prelude.{◌≡◌, ◌+◌, ◌≤◌, length};
 ghost use Rattle.blob.specs.Le.{le};
 ghost use Rattle.blob.specs.Reading.{run, done, verdict};
-ghost use Rattle.format.specs.Named.{number_of};
 ghost use Rattle.format.specs.Provider.{wevt_at};
 ghost use Rattle.format.specs.Crim.{described_at};
 ghost use Rattle.provided.specs.Provided.{ProviderRoom, ProviderStored};
 
-use format::Wevt;
-use format::list::{AREAS, List, width};
+use format::list::{AREAS, width};
+use format::{Wevt, list};
 
 // The header of the WEVT of a provider that is known to be fine, by the place of its descriptor in the block.
 fn wevt_of(b: &[u8], at: usize) -> Wevt
@@ -31,20 +30,20 @@ fn wevt_of(b: &[u8], at: usize) -> Wevt
 pub fn fill(
     b: &[u8],
     at: usize,
-    list: List,
+    list: u32,
     number: u32,
     before: &mut [u32; AREAS],
     area: &mut [u32],
 ) -> usize
     requires at_in_bounds { (at + 20 ≤ length b.now) × (length b.now ≤ 16777216) × (verdict (run (described_at at) b.now) ≡ Ok tt) }
-    requires provider_room { ProviderRoom (number_of list) number before.old (run (described_at at) b.now) area.old }
-    ensures { ProviderStored (number_of list) number before.old (run (described_at at) b.now) area.old result before.new area.new }
+    requires provider_room { ProviderRoom list number before.old (run (described_at at) b.now) area.old }
+    ensures { ProviderStored list number before.old (run (described_at at) b.now) area.old result before.new area.new }
 {
     let v = wevt_of(b, at);
     let offset = blob::word(b, at + 16);
     let start = offset as usize + 20;
     match list {
-        List::Providers => {
+        list::PROVIDERS => {
             let g = words::guid_at(b, at);
             let entry = [
                 g.a,
@@ -60,11 +59,11 @@ pub fn fill(
             words::put(area, 0, &entry);
             width::PROVIDERS
         }
-        List::Descriptors => fillers::fill_descriptors(b, start, v.descriptors, area),
-        List::Unknown2 => {
+        list::DESCRIPTORS => fillers::fill_descriptors(b, start, v.descriptors, area),
+        list::UNKNOWN2 => {
             fillers::fill_unknown2(b, start + 8 * (v.descriptors as usize), v.unknown2, area)
         }
-        List::Unknown => fillers::fill_unknown(b, start, v.descriptors, number, area),
+        list::UNKNOWN => fillers::fill_unknown(b, start, v.descriptors, number, area),
         _ => fillers::fill_tables(b, start, v.descriptors, list, number, before, area),
     }
 }

@@ -4,7 +4,7 @@
 ghost use Rattle.std.specs.Prelude.{◌≡◌, ◌+◌, ◌*◌, ◌≤◌, length};
 ghost use Rattle.blob.specs.Reading.{run};
 ghost use Rattle.format.specs.Table as spec;
-ghost use Rattle.format.specs.Kinds.{number};
+ghost use Rattle.format.specs.Kinds.{number, numbered};
 ghost use Rattle.format.specs.Region.{end_read};
 
 use blob::Refusal;
@@ -40,16 +40,16 @@ pub fn header_length(kind: Kind) -> u32
 }
 
 // The bytes of a kind's record; 0 where it has none.
-pub fn stride(kind: Kind) -> u32
-    ensures { (result ≡ spec.stride (number kind)) × (result ≤ 48) }
+pub fn stride(kind: Option<Kind>) -> u32
+    ensures { (result ≡ spec.stride (numbered kind)) × (result ≤ 48) }
 {
     match kind {
-        Kind::Chan => 16,
-        Kind::Evnt => 48,
-        Kind::Keyw => 16,
-        Kind::Levl => 12,
-        Kind::Opco => 12,
-        Kind::Task => 28,
+        Some(Kind::Chan) => 16,
+        Some(Kind::Evnt) => 48,
+        Some(Kind::Keyw) => 16,
+        Some(Kind::Levl) => 12,
+        Some(Kind::Opco) => 12,
+        Some(Kind::Task) => 28,
         _ => 0,
     }
 }
@@ -58,7 +58,7 @@ pub fn stride(kind: Kind) -> u32
 fn records_length(kind: Kind, count: u32) -> usize
     ensures { (result ≡ spec.stride (number kind) * count) × (result ≤ 206158430208) }
 {
-    (stride(kind) as usize) * (count as usize)
+    (stride(Some(kind)) as usize) * (count as usize)
 }
 
 // The field code of a kind's table.

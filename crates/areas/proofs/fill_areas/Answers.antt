@@ -21,8 +21,8 @@ fill_area-to-requires c =
       n_in_bounds = c.requires.n_in_bounds;
       b_value = c.requires.b_value;
       size_in_bounds = omega (arith, a, size, c.loop-i.invariant.0);
-      b_len_bound = rw (size, number-at i c.loop-i-test.true) (area_fits c.args.capacities (omega arith) ps (lent_both c.args.capacities c.args.words.now c.requires.needs_value.1).0 c.requires.roomy i (omega arith));
-      b_value_2 = λ z. rw (number-at i c.loop-i-test.true) (no_words ps c.args.needs c.requires.needs_value.0 i (omega arith) z);
+      b_len_bound = rw (size, c.number.ensures, number-at i c.loop-i-test.true) (area_fits c.args.capacities (omega arith) ps (lent_both c.args.capacities c.args.words.now c.requires.needs_value.1).0 c.requires.roomy i (omega arith));
+      b_value_2 = λ z. rw (c.number.ensures, number-at i c.loop-i-test.true) (no_words ps c.args.needs c.requires.needs_value.0 i (omega arith) z);
     }
 
 pub loop-i-preserved : goal.loop-i-preserved
@@ -33,7 +33,7 @@ loop-i-preserved c =
     let size = rw (place-at i c.loop-i-test.true) at c.words_of-size.ensures.0 in (
       omega (arith, a, size, c.loop-i.invariant.0, to.value, c.fill_area-to.auto.words),
       c.loop-i.invariant.1
-          ∙ fill_step c.args.capacities (omega arith) _ i (omega arith) _ _ _ _ (rw (number-at i c.loop-i-test.true) at to.words_after) (to.value ∙ ap (λ n. c.loop-i.to + n) size),
+          ∙ fill_step c.args.capacities (omega arith) _ i (omega arith) _ _ _ _ (rw (c.number.ensures, number-at i c.loop-i-test.true) at to.words_after) (to.value ∙ ap (λ n. c.loop-i.to + n) size),
     )
 
 pub returns : goal.returns

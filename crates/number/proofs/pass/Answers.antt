@@ -1,13 +1,13 @@
 -- What is left decides: the bytes from here on, with what the width leaves for them.
 use Rattle.std.proofs.Common.{◌≡◌, ◌+◌, ◌-◌, sym, ◌∙◌, arith}
 use Rattle.number.specs.Number.{LONGEST}
-use Rattle.number.proofs.Scan.{scans, most-ones, scan-over, scan-out, scan-last, scan-more}
+use Rattle.number.proofs.Scan.{scans, scan-over, scan-out, scan-last, scan-more}
 use Rattle.number.proofs.pass.Goals as goal
 
 pub loop-k-init : goal.loop-k-init
 loop-k-init c =
     let i : c.args.at + 0 ≡ c.args.at = omega arith in
-    record { inside = λ h. omega arith; decides = rw (i, c.most-limit.ensures) (scans _ _ _ (most-ones c.args.width)) }
+    record { inside = λ h. omega arith; decides = rw i (scans _ _ _ c.requires) }
 
 pub returns-then-bytes-i : goal.returns-then-bytes-i
 returns-then-bytes-i c = sym (c.loop-k.invariant.decides ∙ scan-out _ _ _ _ _ (omega arith) c.if-bytes-i.true)
