@@ -14,7 +14,7 @@ ghost use Rattle.areas.specs.Areas.{providers, providers_in, roomy};
 
 use format::list::{AREAS, List};
 
-// Stores what a list has of n providers that are fine.
+// Stores what a list, given by its number as to `provided::fill`, has of n providers that are fine.
 fn fill(b: &[u8], n: u32, list: u32, area: &mut [u32])
     requires n_in_bounds { (16 + 20 * n ≤ length b.now) × (length b.now ≤ 16777216) }
     requires b_value { verdict (run (providers n) b.now) ≡ Ok tt }

@@ -46,7 +46,8 @@ fn none() -> Guid
     }
 }
 
-// CHAN: identifier, name offset, unknown, message. Here and below the name is still to be read.
+// CHAN: identifier, name offset, unknown, message. Here and below the name is still to be read. (A function for each: a table of places by
+// kind would not show what a record holds.)
 fn channel(b: &[u8], at: usize) -> Definition
     requires { at + 16 ≤ length b.now }
     ensures { run (channel_fields at) b.now ≡ done result }

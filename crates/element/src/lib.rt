@@ -21,7 +21,7 @@ use format::{Descriptor, Header, signature};
 // The numbers of kinds, and 0, of none.
 pub const NUMBERS: usize = 9;
 
-// Where a provider keeps no table of a kind: no place of a blob.
+// Where a provider keeps no table of a kind: no place of a blob. (As an Option each place would be two words, and two stores.)
 pub const NONE: u32 = 4294967295;
 
 // The one known signature that a signature can be: each has its own of eight cells. One comparison then tells those that name no kind.

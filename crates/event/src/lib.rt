@@ -63,7 +63,8 @@ fn put_event(area: &mut [u32], to: usize, e: Event)
     words::put(area, to, &entry);
 }
 
-// Stores the words of n events whose records stand one after another from a place on.
+// Stores the words of n events whose records stand one after another from a place on. (Loops that store records look alike:
+// docs/DECISIONS.md says why each stands by itself.)
 pub fn fill_events(b: &[u8], at: usize, n: u32, area: &mut [u32])
     requires n_in_bounds { at + 48 * n ≤ length b.now }
     requires n_in_bounds_2 { width EVENTS * n ≤ length area.old }

@@ -36,7 +36,8 @@ pub struct Header {
     pub count: u32,
 }
 
-// A record of CHAN, KEYW, LEVL, OPCO or TASK, one entry type for all five.
+// A record of CHAN, KEYW, LEVL, OPCO or TASK, one entry type for all five. Its kind, as a map's below, is the number that the entry has: the
+// definition makes these records, too.
 #[derive(Clone, Copy)]
 pub struct Definition {
     pub kind: u32,
@@ -141,7 +142,7 @@ pub struct CrimHeader {
     pub count: u32,
 }
 
-// The answer of a reading.
+// The answer of a reading, with code 0 where it is accepted: the numbers that C is given, of which `Allowed` speaks.
 #[derive(Clone, Copy)]
 pub struct Answer {
     pub code: u8,

@@ -160,7 +160,7 @@ impl<'a> Lists<'a> {
     }
 }
 
-// Whether a provider is there, a kind is one, and a range is one of its list.
+// Whether a provider is there, a word is a kind's number, and a range is one of the kind's list.
 fn in_lists(c: [u32; AREAS], provider: u32, kind: u32, first: u32, count: u32) -> bool
     ensures { result ≡ (ltb provider (area.of area.PROVIDERS c) && (leb 1 kind && (leb kind 8 && leb (first + count) (area.of (kind_list kind) c)))) }
 {

@@ -27,6 +27,7 @@ fn wevt_of(b: &[u8], at: usize) -> Wevt
 
 // Stores what a list has of the provider whose descriptor in the block stands at a place, and that is known to be fine: by its number, and
 // by how many entries were written before in each list, with which its own are counted. Hands back how many words they are.
+// The list is given by its number: the promise speaks of any.
 pub fn fill(
     b: &[u8],
     at: usize,
