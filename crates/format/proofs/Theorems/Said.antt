@@ -19,19 +19,27 @@ Exactly {A} {R} told read = (r : R) (o : Outcome A) → (r ≡ read o) ↔ (told
 abbrev pub Keeps : {A B R : Type 0} → (R → Outcome A) → (B → A) → (Outcome B → R) → Type 0
 Keeps {A} {B} {R} told kept read = (r : R) (o : Outcome B) → (r ≡ read o) ↔ (told r ≡ then o (λ b. done (kept b)))
 
--- once for every value
+-- once for every answer of two cases, f for a value and g for a refusal
+module _ {A R : Type 0} (told : R → Outcome A) where
+  pub exactly : {f : A → R} {g : Refusal → R} → ((a : A) → told (f a) ≡ done a) → ((q : Refusal) → told (g q) ≡ refused q) → ((r : R) → r ≡ answer f g (told r)) → Exactly told (answer f g)
+  exactly {f} {g} value refusal back r (done a) = (λ e. ap told e ∙ value a, λ e. back r ∙ ap (answer f g) e)
+  exactly {f} {g} value refusal back r (refused q) = (λ e. ap told e ∙ refusal q, λ e. back r ∙ ap (answer f g) e)
+
+  pub keeps : {B : Type 0} (kept : B → A) (f : A → R) {g : Refusal → R} → Exactly told (answer f g) → Keeps told kept (answer (λ b. f (kept b)) g)
+  unfolding then
+  keeps kept f h r (done b) = h r (done (kept b))
+  keeps kept f h r (refused q) = h r (refused q)
+
+-- and so for every result
 told-back : {A : Type 0} (r : Result A Refusal) → r ≡ as_result (λ a. a) (told r)
 told-back (Ok a) = refl
 told-back (Err q) = refl
 
-pub exactly : {A : Type 0} → Exactly {A = A} told (as_result (λ a. a))
-exactly r (done a) = (λ e. ap told e, λ e. told-back r ∙ ap (as_result (λ a. a)) e)
-exactly r (refused q) = (λ e. ap told e, λ e. told-back r ∙ ap (as_result (λ a. a)) e)
+result-exactly : {A : Type 0} → Exactly {A = A} told (as_result (λ a. a))
+result-exactly = exactly told (λ a. refl) (λ q. refl) told-back
 
-pub keeps : {A B : Type 0} (kept : B → A) → Keeps told kept (as_result kept)
-unfolding then
-keeps kept r (done b) = exactly r (done (kept b))
-keeps kept r (refused q) = exactly r (refused q)
+result-keeps : {A B : Type 0} (kept : B → A) → Keeps told kept (as_result kept)
+result-keeps kept = keeps told kept Ok result-exactly
 
 pub record Enums : Type 1 where
   pub verdict : {A : Type 0} → Keeps told (λ (a : A). tt) verdict
@@ -46,14 +54,14 @@ pub record Enums : Type 1 where
 pub enums : Enums
 enums =
     record {
-      verdict = keeps (λ a. tt);
-      header = exactly;
-      crim = exactly;
-      wevt = exactly;
-      end = λ place. keeps place;
-      map = keeps (λ m. m.map);
-      counted = λ count. keeps (λ a. capped (count a));
-      guids = keeps (λ gs. length gs);
+      verdict = result-keeps (λ a. tt);
+      header = result-exactly;
+      crim = result-exactly;
+      wevt = result-exactly;
+      end = λ place. result-keeps place;
+      map = result-keeps (λ m. m.map);
+      counted = λ count. result-keeps (λ a. capped (count a));
+      guids = result-keeps (λ gs. length gs);
     }
 
 -- the lookup by offset: the number of one template or of none, 10 or 8
