@@ -63,7 +63,7 @@ fn holds_definitions(kind: Kind) -> bool
 }
 
 // Whether tables of a kind have entries in a list. (A number and no `List`, here and up to `fill_tables`: that one's promise speaks of any
-// number, and of one that is no list's as of the templates'.)
+// number, of those that are no list's too.)
 fn has_entries(list: u32, kind: Kind) -> bool
     ensures { result ≡ has_entries list (kinds.number kind) }
 {

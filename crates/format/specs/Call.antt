@@ -36,7 +36,7 @@ called bytes words capacities n =
 unfoldable pub called_needs : List ℕ → ℕ → Outcome Crim
 called_needs bytes n = choose (eqb n (5 + length rows)) (block bytes) (misfit bytes)
 
--- the numbers of a lookup's answer: what its enum says, and what was found
+-- the numbers of a lookup's answer: what its result says, and what was found
 abbrev pub said : Refusal → List ℕ → List ℕ
 said r found = r.code ∷ r.place ∷ r.first ∷ r.second ∷ found
 

@@ -38,22 +38,22 @@ module _ (words key : List ℕ) (at : ℕ) where
   alike-none i h = let n : length key - i ≡ 0 = omega arith in rw (n, drop_of_length-le key h)
 
 -- Of entries that are searched, the next one has the words or has not, or none is left.
-module _ (words key : List ℕ) (width from : ℕ) (k : from + length key ≤ width) (n at i : ℕ) (h : i < n) where
-  position-more : position (has from key) i (rest width words n at i)
-      ≡ choose (alike (take (length key) (drop ((at + width * i) + from) words)) key) (i ∷ []) (position (has from key) (i + 1) (rest width words n at (i + 1)))
+module _ (words key : List ℕ) (width from : ℕ) (k : from + length key ≤ width) (n at i number : ℕ) (h : i < n) where
+  position-more : position (has from key) number (rest width words n at i)
+      ≡ choose (alike (take (length key) (drop ((at + width * i) + from) words)) key) (number ∷ []) (position (has from key) (number + 1) (rest width words n at (i + 1)))
   unfolding position
-  position-more = rw (rest_more width words n at i h, some_of width words (length key) from (at + width * i) k, add-one)
+  position-more = let m : suc number ≡ number + 1 = omega arith in rw (rest_more width words n at i h, some_of width words (length key) from (at + width * i) k, m)
 
-  pub position_here : true ≡ alike (take (length key) (drop ((at + width * i) + from) words)) key → position (has from key) i (rest width words n at i) ≡ i ∷ []
+  pub position_here : true ≡ alike (take (length key) (drop ((at + width * i) + from) words)) key → position (has from key) number (rest width words n at i) ≡ number ∷ []
   position_here e = position-more ∙ rw (← e)
 
   pub position-behind : false ≡ alike (take (length key) (drop ((at + width * i) + from) words)) key
-      → position (has from key) i (rest width words n at i) ≡ position (has from key) (i + 1) (rest width words n at (i + 1))
+      → position (has from key) number (rest width words n at i) ≡ position (has from key) (number + 1) (rest width words n at (i + 1))
   position-behind e = position-more ∙ rw (← e)
 
-pub position-none : (p : Entry → Bool) (words : List ℕ) (width n at i : ℕ) → n ≤ i → position p i (rest width words n at i) ≡ []
+pub position-none : (p : Entry → Bool) (words : List ℕ) (width n at i number : ℕ) → n ≤ i → position p number (rest width words n at i) ≡ []
 unfolding position
-position-none p words width n at i h = rw (rest_none width words n at i h)
+position-none p words width n at i number h = rw (rest_none width words n at i h)
 
 -- Of entries that are tested by their numbers, the next one passes or does not, or none is left.
 module _ (p : Entry → Bool) (words : List ℕ) (width n at i : ℕ) where
@@ -68,6 +68,22 @@ module _ (p : Entry → Bool) (words : List ℕ) (width n at i : ℕ) where
   pub every_all : n ≤ i → every p (rest width words n at i) ≡ true
   unfolding every
   every_all h = rw (rest_none width words n at i h)
+
+-- Of entries that are tested, those that are left decide: where the next one passes, where it does not, and where none is left.
+module _ (p : Entry → Bool) (words : List ℕ) (width left at : ℕ) where
+  every_more : 0 < left → every p (entries_from width left at words) ≡ (p (take width (drop at words)) && every p (entries_from width (left - 1) (at + width) words))
+  unfolding every entries_from
+  every_more h = let m : left ≡ suc (left - 1) = omega arith in ap (λ (l : ℕ). every p (entries_from width l at words)) m
+
+  pub every_here : 0 < left → p (take width (drop at words)) ≡ true → every p (entries_from width left at words) ≡ every p (entries_from width (left - 1) (at + width) words)
+  every_here h e = every_more h ∙ rw e
+
+  pub every-not : 0 < left → p (take width (drop at words)) ≡ false → every p (entries_from width left at words) ≡ false
+  every-not h e = every_more h ∙ rw e
+
+  pub every-none : left ≤ 0 → every p (entries_from width left at words) ≡ true
+  unfolding every entries_from
+  every-none h = let m : left ≡ 0 = omega arith in rw m
 
 -- two tests at once
 and_swap : (a b c d : Bool) → ((a && b) && (c && d)) ≡ ((a && c) && (b && d))

@@ -102,7 +102,8 @@ fn check_temp(b: &[u8], end: usize, at: usize, size: u32) -> Result<(), Refusal>
 
 // Whether n TEMPs stand one after another from a place of a region on, and how many items they have. The step is the size of the TEMP
 // before, where this one's is the same, so that the processor need not wait for the word that it reads; where not, it is the new one and
-// the TEMP is looked at again. (With a `continue` for the `else`, the compiler steps by the word again.)
+// the TEMP is looked at again. (With a `continue` for the `else`, the compiler steps by the word again. No
+// `for`: where the next TEMP stands hangs on what was read.)
 fn check_until(b: &[u8], end: usize, start: usize, n: u32) -> Result<u32, Refusal>
     requires { (start ≤ end) × (end ≤ length b.now) × (length b.now ≤ 16777216) }
     ensures { result ≡ templates_read (run (many (template_at (until end)) next n start) b.now) }

@@ -12,14 +12,14 @@ pub returns-then-same : goal.returns-then-same
 returns-then-same c =
     let k = rw (← c.width-width.ensures.0) at c.requires.key_in_entry in
     rw (← c.width-width.ensures.0)
-    (sym (ap found (c.loop-number.invariant ∙ position_here c.args.words.now c.args.key.now c.width-width.result c.args.from k _ _ _ c.loop-number-test.true (sym c.if-same.true ∙ c.same.ensures))))
+    (sym (ap found (c.loop-number.invariant ∙ position_here c.args.words.now c.args.key.now c.width-width.result c.args.from k _ _ _ _ c.loop-number-test.true (sym c.if-same.true ∙ c.same.ensures))))
 
 pub loop-number-preserved : goal.loop-number-preserved
 loop-number-preserved c =
     let k = rw (← c.width-width.ensures.0) at c.requires.key_in_entry in
-    c.loop-number.invariant ∙ position-behind c.args.words.now c.args.key.now c.width-width.result c.args.from k _ _ _ c.loop-number-test.true (sym c.if-same.false ∙ c.same.ensures)
+    c.loop-number.invariant ∙ position-behind c.args.words.now c.args.key.now c.width-width.result c.args.from k _ _ _ _ c.loop-number-test.true (sym c.if-same.false ∙ c.same.ensures)
 
 pub returns : goal.returns
 returns c =
     rw (← c.width-width.ensures.0)
-    (sym (ap found (c.loop-number.invariant ∙ position-none (has c.args.from c.args.key.now) c.args.words.now c.width-width.result _ _ _ c.loop-number-test.false)))
+    (sym (ap found (c.loop-number.invariant ∙ position-none (has c.args.from c.args.key.now) c.args.words.now c.width-width.result _ _ _ _ c.loop-number-test.false)))
