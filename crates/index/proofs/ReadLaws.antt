@@ -12,7 +12,7 @@ use Rattle.std.proofs.Math.ListN.{length, get_or, drop, drop_of_length-le}
 use Rattle.std.proofs.Math.Seq.{drop-cons}
 use borrow.Author.Tests.{eq-eqb, ne_eqb, le-leb, lt-leb}
 use Rattle.blob.specs.Reading.{Outcome, done, refused, choose, then, verdict}
-use Rattle.blob.proofs.Laws.{same, then-done}
+use Rattle.blob.proofs.Laws.{same, then-done, result_found, result_refused}
 use Rattle.blob.specs.Laid.{laid, flat, length-laid, laid_more, laid-behind}
 use Rattle.blob.specs.declared.Refusal.{Refusal}
 use Rattle.format.proofs.Theorems.Known.{All}
@@ -27,24 +27,9 @@ use Rattle.format.specs.Answer.{too_small}
 use Rattle.index.specs.declared.Word.{Word}
 use Rattle.index.specs.declared.Shape.{Shape}
 use Rattle.index.specs.declared.Place.{Place}
-use Rattle.index.specs.Read.{mosts, shows, word_read, behind_number, behind_row, behind_rows, row_of, rows_of, words_of, Counted, counted_at, counted_read, counted_of, Shaped, narrow, RowStands, RowsStand, RowGiven, RowsGiven, counted_words, CountedStands, CountedGiven, Stands, Giving, RowLeft, RowsLeft, Parts}
+use Rattle.index.specs.Read.{mosts, word_read, behind_number, behind_row, behind_rows, row_of, rows_of, words_of, Counted, counted_at, counted_read, counted_of, Shaped, narrow, RowStands, RowsStand, RowGiven, RowsGiven, counted_words, CountedStands, CountedGiven, Stands, Giving, RowLeft, RowsLeft, Parts}
 
 -- what was found, by what is told of it
-module _ {A R : Type 0} (f : A → R) (o : Outcome A) where
-  pub was_found : (x : R) → Ok x ≡ shows f o → (a : A) × (o ≡ done a) × (f a ≡ x)
-  was_found x e = go o refl e
-    where
-      go : (p : Outcome A) → o ≡ p → Ok x ≡ shows f p → (a : A) × (o ≡ done a) × (f a ≡ x)
-      go (done a) p e = (a, p, cc)
-      go (refused r) p e = absurd (let z : ◌≡◌ {A = ℕ} 0 1 = cc in omega arith)
-
-  pub was_refused : (q : Refusal) → Err q ≡ shows f o → o ≡ refused q
-  was_refused q e = go o refl e
-    where
-      go : (p : Outcome A) → o ≡ p → Err q ≡ shows f p → o ≡ refused q
-      go (done a) p e = absurd (let z : ◌≡◌ {A = ℕ} 0 1 = cc in omega arith)
-      go (refused r) p e = p ∙ ap refused cc
-
 pub was_word : (o : Outcome Number) (w : Word) → Ok w ≡ word_read o → (n : Number) × (o ≡ done n) × (n.value ≡ w.value) × (n.behind ≡ w.behind)
 was_word (done n) w e = (n, refl, cc, cc)
 was_word (refused r) w e = absurd (let z : ◌≡◌ {A = ℕ} 0 1 = cc in omega arith)
@@ -52,11 +37,11 @@ was_word (refused r) w e = absurd (let z : ◌≡◌ {A = ℕ} 0 1 = cc in omega
 -- what was passed is what is read
 pub passed_read : (bytes : List ℕ) (at next : ℕ) (n : Number) → Ok next ≡ behind_number (number_at WORD bytes at) → number_at LONG bytes at ≡ done n → number_at WORD bytes at ≡ done n
 passed_read bytes at next n e h =
-    let f = was_found _ _ next e in
+    let f = result_found _ _ next e in
     f.1 ∙ ap done (same _ _ (sym (wider WORD LONG bytes at f.0 (omega arith) f.1) ∙ h))
 
 pub passed_stands : (bytes : List ℕ) (at next : ℕ) → Ok next ≡ behind_number (number_at WORD bytes at) → verdict (number_at LONG bytes at) ≡ Ok tt
-passed_stands bytes at next e = let f = was_found _ _ next e in ap verdict (wider WORD LONG bytes at f.0 (omega arith) f.1)
+passed_stands bytes at next e = let f = result_found _ _ next e in ap verdict (wider WORD LONG bytes at f.0 (omega arith) f.1)
 
 -- where a width's numbers are not given in two words, they have 32 bits
 most-narrow : (w : Width) → eqb (most w) LONG ≡ false → most w ≤ WORD
@@ -85,11 +70,11 @@ module _ (ws : List Width) (bytes : List ℕ) (i at : ℕ) where
 
     pub row_stops : (q : Refusal) → Err q ≡ behind_number (number_at (most w) bytes at) → Err q ≡ behind_row (row_at (mosts (drop i ws)) bytes at)
     unfolding then
-    row_stops q e = rw (row_on, was_refused _ _ q e)
+    row_stops q e = rw (row_on, result_refused _ _ q e)
 
     pub row_goes : (next : ℕ) → Ok next ≡ behind_number (number_at (most w) bytes at) → behind_row (row_at (mosts (drop i ws)) bytes at) ≡ behind_row (row_at (mosts (drop (i + 1) ws)) bytes next)
     unfolding then
-    row_goes next e = let n = was_found _ _ next e in rw (row_on, n.1, n.2) (go n.0 (row_at (mosts (drop (i + 1) ws)) bytes next))
+    row_goes next e = let n = result_found _ _ next e in rw (row_on, n.1, ← n.2) (go n.0 (row_at (mosts (drop (i + 1) ws)) bytes next))
       where
         go : (n : Number) (o : Outcome Row) → behind_row (then o (λ r. done (record { numbers = n.value ∷ r.numbers; behind = r.behind }))) ≡ behind_row o
         go n (done r) = refl
@@ -118,11 +103,11 @@ module _ (ws bytes : List ℕ) (left at : ℕ) where
 
   pub rows_stop : (q : Refusal) → 0 < left → Err q ≡ behind_row (row_at ws bytes at) → Err q ≡ behind_rows (rows_at left ws bytes at)
   unfolding then
-  rows_stop q h e = rw (rows_on h, was_refused _ _ q e)
+  rows_stop q h e = rw (rows_on h, result_refused _ _ q e)
 
   pub rows_go : (next : ℕ) → 0 < left → Ok next ≡ behind_row (row_at ws bytes at) → behind_rows (rows_at left ws bytes at) ≡ behind_rows (rows_at (left - 1) ws bytes next)
   unfolding then
-  rows_go next h e = let r = was_found _ _ next e in rw (rows_on h, r.1, r.2) (go r.0 (rows_at (left - 1) ws bytes next))
+  rows_go next h e = let r = result_found _ _ next e in rw (rows_on h, r.1, ← r.2) (go r.0 (rows_at (left - 1) ws bytes next))
     where
       go : (r : Row) (o : Outcome Rows) → behind_rows (then o (λ rs. done (record { rows = r.numbers ∷ rs.rows; behind = rs.behind }))) ≡ behind_rows o
       go r (done rs) = refl

@@ -1,24 +1,15 @@
 -- What a call over the C boundary finds of an index, and what the lent numbers then hold; the lent bytes or words hold what `held` says.
-use Rattle.std.specs.Prelude.{ℕ, ◌≡◌, ◌&&◌, List, [], ◌∷◌, get_or, eqb, Result, Ok, Err}
-use Rattle.blob.specs.Reading.{Outcome, done, refused, choose}
+use Rattle.std.specs.Prelude.{ℕ, ◌≡◌, ◌&&◌, List, [], ◌∷◌, get_or, eqb, Result}
+use Rattle.blob.specs.Reading.{Outcome, refused, choose}
 use Rattle.blob.specs.declared.Refusal.{Refusal}
 use Rattle.format.specs.Answer.{own}
 use Rattle.format.specs.Says as says
-use Rattle.format.specs.Call.{told, said, each_row}
+use Rattle.format.specs.Call.{told, said, each_row, given_number}
 use Rattle.index.specs.Index.{reading, writing, given, held}
-
--- how many bytes or words; 0 on a refusal
-abbrev pub index_told : Result ℕ Refusal → Outcome ℕ
-index_told (Ok n) = done n
-index_told (Err r) = refused r
-
-abbrev pub given_number : Result ℕ Refusal → ℕ
-given_number (Ok n) = n
-given_number (Err r) = 0
 
 -- "answer of 5: code, place, first, second, bytes written", or words given
 abbrev pub index_numbers : Result ℕ Refusal → List ℕ
-index_numbers a = said (says.said (index_told a)) (given_number a ∷ [])
+index_numbers a = said (says.said (says.told a)) (given_number a ∷ [])
 
 -- "Wrong lengths are 8 as everywhere."
 unfoldable pub called_read : List ℕ → List ℕ → ℕ → Outcome (List ℕ)

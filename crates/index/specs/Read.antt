@@ -3,7 +3,7 @@ use Prim.Native.Nat.{ℕ, ◌+◌, ◌≤◌}
 use Rattle.std.specs.Prelude.{◌≡◌, false, map, Result, Ok, Err, eqb}
 use mathlib.Core.List.{List, [], ◌∷◌}
 use Rattle.std.proofs.Math.ListN.{length}
-use Rattle.blob.specs.Reading.{Outcome, done, refused, then, answer}
+use Rattle.blob.specs.Reading.{Outcome, done, refused, then, answer, as_result}
 use Rattle.blob.specs.Laid.{laid, flat}
 use Rattle.blob.specs.declared.Refusal.{Refusal}
 use Rattle.number.specs.Number.{WORD, LONG, number_at}
@@ -19,21 +19,17 @@ use Rattle.index.specs.declared.Place.{Place}
 abbrev pub mosts : List Width → List ℕ
 mosts ws = map most ws
 
--- what a function tells of what it found
-abbrev pub shows : {A R : Type 0} → (A → R) → Outcome A → Result R Refusal
-shows f o = answer (λ a. Ok (f a)) Err o
-
 abbrev pub behind_number : Outcome Number → Result ℕ Refusal
-behind_number o = shows (λ n. n.behind) o
+behind_number o = as_result (λ n. n.behind) o
 
 abbrev pub word_read : Outcome Number → Result Word Refusal
-word_read o = shows (λ n. record { value = n.value; behind = n.behind }) o
+word_read o = as_result (λ n. record { value = n.value; behind = n.behind }) o
 
 abbrev pub behind_row : Outcome Row → Result ℕ Refusal
-behind_row o = shows (λ r. r.behind) o
+behind_row o = as_result (λ r. r.behind) o
 
 abbrev pub behind_rows : Outcome Rows → Result ℕ Refusal
-behind_rows o = shows (λ r. r.behind) o
+behind_rows o = as_result (λ r. r.behind) o
 
 -- what was found, where something was
 abbrev pub row_of : Outcome Row → Row
@@ -60,7 +56,7 @@ counted_at ws bytes at =
     then (number_at WORD bytes at) (λ n. then (rows_at n.value ws bytes n.behind) (λ r. done (record { count = n.value; rows = r.rows; behind = r.behind })))
 
 abbrev pub counted_read : Outcome Counted → Result Word Refusal
-counted_read o = shows (λ c. record { value = c.count; behind = c.behind }) o
+counted_read o = as_result (λ c. record { value = c.count; behind = c.behind }) o
 
 abbrev pub counted_of : Outcome Counted → Counted
 counted_of o = answer (λ c. c) (λ q. record { count = 0; rows = []; behind = 0 }) o

@@ -4,7 +4,8 @@ use Rattle.std.proofs.Common.{sym, ◌∙◌}
 use Rattle.blob.specs.Reading.{Outcome, refused}
 use Rattle.blob.specs.declared.Refusal.{Refusal}
 use Rattle.index.specs.Index.{given, held, AllowedRead, AllowedWrite}
-use Rattle.index.specs.Call.{given_number, AllowedCall}
+use Rattle.format.specs.Call.{given_number}
+use Rattle.index.specs.Call.{AllowedCall}
 
 pub determined_read : (bytes lent : List ℕ) (a b : Result ℕ Refusal) (after after' : List ℕ) → AllowedRead bytes lent a after → AllowedRead bytes lent b after' → (a ≡ b) × (after ≡ after')
 determined_read bytes lent a b after after' h k = (h.answered ∙ sym k.answered, h.kept ∙ sym k.kept)
