@@ -1,7 +1,7 @@
 -- The event index: what it holds, the bytes that it is written as, and how these are read back. "Write, and read back, an index of every
 -- event with a found template." (request 05)
-use Rattle.std.specs.Prelude.{ℕ, zero, suc, ◌+◌, ◌*◌, ◌/◌, ◌%◌, ◌≡◌, Bool, true, ◌&&◌, List, [], ◌∷◌, ◌++◌, map, length, take, drop, leb, eqb, Result, Ok, Err}
-use Rattle.blob.specs.Reading.{Outcome, done, refused, choose, then, answer}
+use Rattle.std.specs.Prelude.{ℕ, zero, suc, ◌+◌, ◌*◌, ◌/◌, ◌%◌, ◌≡◌, Bool, true, ◌&&◌, List, [], ◌∷◌, ◌++◌, map, length, take, drop, leb, eqb, Result}
+use Rattle.blob.specs.Reading.{Outcome, done, refused, choose, then, as_result}
 use Rattle.blob.specs.Laid.{laid, flat}
 use Rattle.blob.specs.declared.Refusal.{Refusal}
 use Rattle.number.specs.Number.{BYTE, HALF, WORD, LONG, form, fault, number_at}
@@ -136,7 +136,7 @@ module _ (words capacities counts : List ℕ) where
 
 -- what the code answers, and what the lent bytes or words then hold
 abbrev pub given : Outcome (List ℕ) → Result ℕ Refusal
-given o = answer (λ g. Ok (length g)) Err o
+given o = as_result (λ g. length g) o
 
 abbrev pub held : List ℕ → Outcome (List ℕ) → List ℕ
 held lent (done g) = laid lent 0 g
