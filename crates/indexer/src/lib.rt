@@ -179,20 +179,17 @@ fn kept(found: bool, owner: u32) -> u32
 // Leaves each event to its owner where it has a found template, else to nobody, so that templates are looked for once. A provider's
 // templates are worked out where its events begin, since these stand together.
 fn resolve(together: &Together, owners: &mut [u32; 65536])
-    ensures { owners.new ≡ spec.resolved together.now.lists.words.now together.now.lists.capacities together.now.lists.counts owners.old }
+    ensures { owners.new ≡ spec.resolved together.now.fitted.lists.words.now together.now.fitted.lists.capacities together.now.fitted.lists.counts owners.old }
 {
-    let fitted = Fitted {
-        lists: together.lists,
-    };
-    let words = together.lists.words;
-    let start = counts::area_at(together.lists.capacities, List::Events);
-    let count = together.lists.counts[row::EVENTS];
+    let words = together.fitted.lists.words;
+    let start = counts::area_at(together.fitted.lists.capacities, List::Events);
+    let count = together.fitted.lists.counts[row::EVENTS];
     let mut known = Known {
         provider: 0,
-        templates: fitted.owned(0, Kind::Ttbl),
+        templates: together.fitted.owned(0, Kind::Ttbl),
     };
     for i in 0..count as usize {
-        known = templates_of(&fitted, known, owners[i]);
+        known = templates_of(&together.fitted, known, owners[i]);
         let found = finds(words, start + width::EVENTS * i, known.templates);
         owners[i] = kept(found, owners[i]);
     }
@@ -351,13 +348,10 @@ pub fn write(lists: &Lists, bytes: &mut [u8]) -> Result<usize, Refusal>
     if !together.owners(&mut owners) {
         return Err(bounds::own(10));
     }
-    let events = together.lists.run_of(List::Events);
-    if !all_fit(together.lists.words, events.start, events.count) {
+    let events = together.fitted.lists.run_of(List::Events);
+    if !all_fit(together.fitted.lists.words, events.start, events.count) {
         return Err(bounds::own(10));
     }
     resolve(&together, &mut owners);
-    let fitted = Fitted {
-        lists: together.lists,
-    };
-    give(&fitted, &owners, bytes)
+    give(&together.fitted, &owners, bytes)
 }

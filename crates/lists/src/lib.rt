@@ -38,13 +38,12 @@ pub struct Fitted<'a> {
 // Such lists whose tables name what is there.
 #[derive(Clone, Copy)]
 pub struct Together<'a> {
-    pub lists: Lists<'a>,
-    pub ghost fits: { spec.Fit lists.words.now lists.capacities lists.counts },
-    pub ghost tables_fit: { right.tables_fit lists.counts (right.entries_of lists.words.now lists.capacities lists.counts area.TABLES) ≡ true },
+    pub fitted: Fitted<'a>,
+    pub ghost tables_fit: { right.tables_fit fitted.lists.counts (right.entries_of fitted.lists.words.now fitted.lists.capacities fitted.lists.counts area.TABLES) ≡ true },
 }
 
 // Entries of a list, one behind the other: where in the lent words the list starts, the number of the first of them in the list, and
-// how many they are.
+// how many they are. (A slice of the words would lose the number.)
 #[derive(Clone, Copy)]
 pub struct Run {
     pub start: usize,
@@ -147,20 +146,18 @@ impl<'a> Lists<'a> {
 
     // 8, and 10 for a count over its capacity, for a table that names what is not there, or for a TTBL with a template of another provider.
     pub fn fit_together(&self) -> Result<Together<'a>, Refusal>
-        ensures { MatchResult result (λ t. (t.lists ≡ self.now) × (spec.fit_together self.now.words.now self.now.capacities self.now.counts ≡ Ok tt))
+        ensures { MatchResult result (λ t. (t.fitted.lists ≡ self.now) × (spec.fit_together self.now.words.now self.now.capacities self.now.counts ≡ Ok tt))
             (λ r. spec.fit_together self.now.words.now self.now.capacities self.now.counts ≡ Err r) }
     {
         let fitted = self.fit()?;
         if !fitted.tables_fit() {
             return Err(bounds::own(10));
         }
-        Ok(Together {
-            lists: fitted.lists,
-        })
+        Ok(Together { fitted })
     }
 }
 
-// Whether a provider is there, a word is a kind's number, and a range is one of the kind's list.
+// Whether a provider is there, a word is a kind's number, and a range is one of the kind's list. (A number, since the lent word may be none.)
 fn in_lists(c: [u32; AREAS], provider: u32, kind: u32, first: u32, count: u32) -> bool
     ensures { result ≡ (ltb provider (area.of area.PROVIDERS c) && (leb 1 kind && (leb kind 8 && leb (first + count) (area.of (kind_list kind) c)))) }
 {
@@ -335,17 +332,17 @@ impl<'a> Together<'a> {
     // table is looked at once, and each event twice at most.
     pub fn owners(&self, owners: &mut [u32; 65536]) -> bool
         requires { owners.old ≡ owner.nobodys }
-        ensures value { result ≡ events_owned self.now.lists.words.now self.now.lists.capacities self.now.lists.counts }
-        ensures owns { owner.Owns (right.entries_of self.now.lists.words.now self.now.lists.capacities self.now.lists.counts area.TABLES) (area.of area.EVENTS self.now.lists.counts) owners.new result }
+        ensures value { result ≡ events_owned self.now.fitted.lists.words.now self.now.fitted.lists.capacities self.now.fitted.lists.counts }
+        ensures owns { owner.Owns (right.entries_of self.now.fitted.lists.words.now self.now.fitted.lists.capacities self.now.fitted.lists.counts area.TABLES) (area.of area.EVENTS self.now.fitted.lists.counts) owners.new result }
     {
-        let tables = self.lists.run_of(List::Tables);
+        let tables = self.fitted.lists.run_of(List::Tables);
         let mut seen = [false; 65536];
         for i in 0..tables.count as usize {
             let at = tables.start + width::TABLES * i;
-            if !take_table(self.lists.words, at, &mut seen, owners) {
+            if !take_table(self.fitted.lists.words, at, &mut seen, owners) {
                 return false;
             }
         }
-        all_owned(owners, self.lists.counts[row::EVENTS])
+        all_owned(owners, self.fitted.lists.counts[row::EVENTS])
     }
 }

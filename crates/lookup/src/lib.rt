@@ -14,7 +14,7 @@ use format::entry::{EVENT_TEMPLATE, GUID, TEMPLATE_GUID, TEMPLATE_PROVIDER};
 use format::kind::Kind;
 use format::list::{List, MOST, row, width};
 use format::{Key, list};
-use lists::{Fitted, Lists, Run, Together};
+use lists::{Lists, Run, Together};
 
 // Where the lookup by key stands: the events that are left of a provider, the templates that they are resolved in, and the providers
 // behind it.
@@ -125,16 +125,19 @@ fn next_new(
 // Where the lookup stands when it comes to the first of some providers that has a GUID: that one's events, its templates, and those of the
 // providers that are behind it.
 fn next_provider(together: &Together, providers: Run, guid: &[u32]) -> Option<Walk>
-    requires guid_len { (length guid.now ≡ entry.GUID) × runs.few (area.width area.PROVIDERS) providers together.now.lists.words.now }
-    ensures value { result ≡ spec.next_provider together.now.lists.words.now together.now.lists.capacities together.now.lists.counts guid.now providers }
-    ensures arrived { spec.arrived together.now.lists.words.now (runs.run_of together.now.lists.capacities together.now.lists.counts (area.place area.TEMPLATES)) providers result }
+    requires guid_len { (length guid.now ≡ entry.GUID) × runs.few (area.width area.PROVIDERS) providers together.now.fitted.lists.words.now }
+    ensures value { result ≡ spec.next_provider together.now.fitted.lists.words.now together.now.fitted.lists.capacities together.now.fitted.lists.counts guid.now providers }
+    ensures arrived { spec.arrived together.now.fitted.lists.words.now (runs.run_of together.now.fitted.lists.capacities together.now.fitted.lists.counts (area.place area.TEMPLATES)) providers result }
 {
-    let p = lists::find(together.lists.words, providers, List::Providers, 0, guid)?;
-    let fitted = Fitted {
-        lists: together.lists,
-    };
-    let events = fitted.owned(p, Kind::Evnt);
-    let templates = fitted.owned(p, Kind::Ttbl);
+    let p = lists::find(
+        together.fitted.lists.words,
+        providers,
+        List::Providers,
+        0,
+        guid,
+    )?;
+    let events = together.fitted.owned(p, Kind::Evnt);
+    let templates = together.fitted.owned(p, Kind::Ttbl);
     let behind = lists::behind(providers, p);
     Some(Walk {
         events,
@@ -152,13 +155,13 @@ fn advance(
     marks: &mut [bool; 65536],
 ) -> Option<(u32, Walk)>
     requires guid_len { (length guid.now ≡ entry.GUID) × (length key.now ≡ entry.KEY) }
-    requires stands { spec.Stands together.now.lists.words.now (runs.run_of together.now.lists.capacities together.now.lists.counts (area.place area.TEMPLATES)) walk }
-    ensures walk_after { spec.new_of together.now.lists.words.now together.now.lists.capacities together.now.lists.counts guid.now key.now marks.old walk
-        ≡ spec.stepped together.now.lists.words.now together.now.lists.capacities together.now.lists.counts guid.now key.now marks.new result }
-    ensures onward { spec.onward together.now.lists.words.now (runs.run_of together.now.lists.capacities together.now.lists.counts (area.place area.TEMPLATES)) result }
+    requires stands { spec.Stands together.now.fitted.lists.words.now (runs.run_of together.now.fitted.lists.capacities together.now.fitted.lists.counts (area.place area.TEMPLATES)) walk }
+    ensures walk_after { spec.new_of together.now.fitted.lists.words.now together.now.fitted.lists.capacities together.now.fitted.lists.counts guid.now key.now marks.old walk
+        ≡ spec.stepped together.now.fitted.lists.words.now together.now.fitted.lists.capacities together.now.fitted.lists.counts guid.now key.now marks.new result }
+    ensures onward { spec.onward together.now.fitted.lists.words.now (runs.run_of together.now.fitted.lists.capacities together.now.fitted.lists.counts (area.place area.TEMPLATES)) result }
 {
-    let words = together.lists.words;
-    let list = together.lists.run_of(List::Templates);
+    let words = together.fitted.lists.words;
+    let list = together.fitted.lists.run_of(List::Templates);
     let mut at = walk;
     // No count: a turn ends it or comes to a provider behind.
     loop {
@@ -172,8 +175,8 @@ fn advance(
 // How many GUIDs the events that are left give, each once; one more than the most that are asked for, where there are more.
 fn count(together: &Together, walk: Walk, guid: &[u32], key: &[u32], most: u32) -> u32
     requires guid_len { (length guid.now ≡ entry.GUID) × (length key.now ≡ entry.KEY) × (most ≤ 65536) }
-    requires stands { spec.Stands together.now.lists.words.now (runs.run_of together.now.lists.capacities together.now.lists.counts (area.place area.TEMPLATES)) walk }
-    ensures { result ≡ min (length (spec.new_of together.now.lists.words.now together.now.lists.capacities together.now.lists.counts guid.now key.now spec.unset walk)) (most + 1) }
+    requires stands { spec.Stands together.now.fitted.lists.words.now (runs.run_of together.now.fitted.lists.capacities together.now.fitted.lists.counts (area.place area.TEMPLATES)) walk }
+    ensures { result ≡ min (length (spec.new_of together.now.fitted.lists.words.now together.now.fitted.lists.capacities together.now.fitted.lists.counts guid.now key.now spec.unset walk)) (most + 1) }
 {
     let mut marks = [false; 65536];
     let mut at = walk;
@@ -189,19 +192,23 @@ fn count(together: &Together, walk: Walk, guid: &[u32], key: &[u32], most: u32) 
 // Stores the GUIDs that they give, each once: so many.
 fn fill(together: &Together, walk: Walk, guid: &[u32], key: &[u32], n: u32, guids: &mut [u32])
     requires guid_len { (length guid.now ≡ entry.GUID) × (length key.now ≡ entry.KEY) }
-    requires stands { spec.Stands together.now.lists.words.now (runs.run_of together.now.lists.capacities together.now.lists.counts (area.place area.TEMPLATES)) walk }
-    requires n_value { (n ≡ length (spec.new_of together.now.lists.words.now together.now.lists.capacities together.now.lists.counts guid.now key.now spec.unset walk)) × (entry.GUID * n ≤ length guids.old) }
-    ensures { guids.new ≡ laid guids.old 0 (flat (spec.guid_of together.now.lists.words.now (runs.run_of together.now.lists.capacities together.now.lists.counts (area.place area.TEMPLATES)))
-        (spec.new_of together.now.lists.words.now together.now.lists.capacities together.now.lists.counts guid.now key.now spec.unset walk)) }
+    requires stands { spec.Stands together.now.fitted.lists.words.now (runs.run_of together.now.fitted.lists.capacities together.now.fitted.lists.counts (area.place area.TEMPLATES)) walk }
+    requires n_value { (n ≡ length (spec.new_of together.now.fitted.lists.words.now together.now.fitted.lists.capacities together.now.fitted.lists.counts guid.now key.now spec.unset walk)) × (entry.GUID * n ≤ length guids.old) }
+    ensures { guids.new ≡ laid guids.old 0 (flat (spec.guid_of together.now.fitted.lists.words.now (runs.run_of together.now.fitted.lists.capacities together.now.fitted.lists.counts (area.place area.TEMPLATES)))
+        (spec.new_of together.now.fitted.lists.words.now together.now.fitted.lists.capacities together.now.fitted.lists.counts guid.now key.now spec.unset walk)) }
 {
-    let list = together.lists.run_of(List::Templates);
+    let list = together.fitted.lists.run_of(List::Templates);
     let mut marks = [false; 65536];
     let mut at = walk;
     for i in 0..n as usize {
         let Some((t, behind)) = advance(together, at, guid, key, &mut marks) else {
             return;
         };
-        words::put(guids, GUID * i, guid_of(together.lists.words, list, t));
+        words::put(
+            guids,
+            GUID * i,
+            guid_of(together.fitted.lists.words, list, t),
+        );
         at = behind;
     }
 }
@@ -216,9 +223,9 @@ fn give(
     guids: &mut [u32],
 ) -> Result<u32, Refusal>
     requires guid_len { (length guid.now ≡ entry.GUID) × (length guids.old / entry.GUID ≤ 65536) }
-    requires stands { spec.Stands together.now.lists.words.now (runs.run_of together.now.lists.capacities together.now.lists.counts (area.place area.TEMPLATES)) walk }
-    ensures value { result ≡ right.guids_found (spec.room_for guids.old (spec.guids_from together.now.lists.words.now together.now.lists.capacities together.now.lists.counts guid.now (right.key_words k) walk)) }
-    ensures guids_after { guids.new ≡ right.guids_held guids.old (spec.room_for guids.old (spec.guids_from together.now.lists.words.now together.now.lists.capacities together.now.lists.counts guid.now (right.key_words k) walk)) }
+    requires stands { spec.Stands together.now.fitted.lists.words.now (runs.run_of together.now.fitted.lists.capacities together.now.fitted.lists.counts (area.place area.TEMPLATES)) walk }
+    ensures value { result ≡ right.guids_found (spec.room_for guids.old (spec.guids_from together.now.fitted.lists.words.now together.now.fitted.lists.capacities together.now.fitted.lists.counts guid.now (right.key_words k) walk)) }
+    ensures guids_after { guids.new ≡ right.guids_held guids.old (spec.room_for guids.old (spec.guids_from together.now.fitted.lists.words.now together.now.fitted.lists.capacities together.now.fitted.lists.counts guid.now (right.key_words k) walk)) }
 {
     let fields = [
         k.identifier,
@@ -258,7 +265,7 @@ pub fn templates_for(lists: &Lists, key: Key, guids: &mut [u32]) -> Result<u32, 
     let together = lists.fit_together()?;
     let g = key.guid;
     let guid = [g.a, g.b, g.c, g.d];
-    let providers = together.lists.run_of(List::Providers);
+    let providers = together.fitted.lists.run_of(List::Providers);
     let Some(walk) = next_provider(&together, providers, &guid) else {
         return Ok(0);
     };

@@ -67,7 +67,7 @@ fn last(byte: u8, limit: u64, first: bool) -> bool
 }
 
 // The place behind the number at a place, if it is one of a width, told by the largest number that has it. No value is worked out: the groups
-// before the last can't take it past a width of ones only.
+// before the last can't take it past a width of ones only. (By that number and no `Width`: it answers for every width of ones.)
 pub fn pass(bytes: &[u8], at: usize, most: u64) -> Result<usize, Fault>
     requires { spec.ones right.LONGEST most ≡ true }
     ensures { result ≡ spec.passed (right.number_at most bytes.now at) }

@@ -14,18 +14,18 @@ returns-in_err-together c =
 
 pub returns-then-not-owners : goal.returns-then-not-owners
 returns-then-not-owners c =
-    let l = c.in_ok-together.together.lists in
+    let l = c.in_ok-together.together.fitted.lists in
     let k = rw (← c.in_ok-together.ensures.0) at c.in_ok-together.ensures.1 in
     rw (← c.in_ok-together.ensures.0) (write_unowned l.words.now l.capacities l.counts c.args.bytes.now k _ c.own.ensures (sym c.owners.ensures.value ∙ c.if-not-owners.true))
 
 pub all_fit-requires : goal.all_fit-requires
 all_fit-requires c =
-    let l = c.in_ok-together.together.lists in
-    rw c.run_of-events.ensures (inside l.words.now l.capacities l.counts c.in_ok-together.together.fits (place EVENTS))
+    let l = c.in_ok-together.together.fitted.lists in
+    rw c.run_of-events.ensures (inside l.words.now l.capacities l.counts c.in_ok-together.together.fitted.fits (place EVENTS))
 
 pub returns-then-not-all_fit : goal.returns-then-not-all_fit
 returns-then-not-all_fit c =
-    let l = c.in_ok-together.together.lists in
+    let l = c.in_ok-together.together.fitted.lists in
     let k = rw (← c.in_ok-together.ensures.0) at c.in_ok-together.ensures.1 in
     let w = rw c.run_of-events.ensures at c.all_fit.ensures in
     rw (← c.in_ok-together.ensures.0)
@@ -33,7 +33,7 @@ returns-then-not-all_fit c =
 
 pub returns : goal.returns
 returns c =
-    let l = c.in_ok-together.together.lists in
+    let l = c.in_ok-together.together.fitted.lists in
     let k = rw (← c.in_ok-together.ensures.0) at c.in_ok-together.ensures.1 in
     let w = rw c.run_of-events.ensures at c.all_fit.ensures in
     rw (← c.in_ok-together.ensures.0)

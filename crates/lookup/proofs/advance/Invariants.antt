@@ -7,7 +7,7 @@ use Rattle.lookup.proofs.advance.Given as goal
 
 abbrev pub invariant-loop-n : goal.invariant-loop-n
 invariant-loop-n l =
-    let a = l.together.lists in
+    let a = l.together.fitted.lists in
     Stands a.words.now (run_of a.capacities a.counts (place TEMPLATES)) l.at
     × (new_of a.words.now a.capacities a.counts l.guid l.key l.initial.marks l.initial.at ≡ new_of a.words.now a.capacities a.counts l.guid l.key l.marks l.at)
 

@@ -9,6 +9,6 @@ use Rattle.lookup.proofs.count.Given as goal
 
 abbrev pub invariant-loop-n : goal.invariant-loop-n
 invariant-loop-n l =
-    let a = l.together.lists in
+    let a = l.together.fitted.lists in
     Stands a.words.now (run_of a.capacities a.counts (place TEMPLATES)) l.at
     × (length (new_of a.words.now a.capacities a.counts l.guid l.key unset l.initial.at) ≡ l.n + length (new_of a.words.now a.capacities a.counts l.guid l.key l.marks l.at))

@@ -12,12 +12,12 @@ use Rattle.lookup.proofs.fill.Goals as goal
 
 pub returns : goal.returns
 returns c =
-    let l = c.args.together.now.lists in
+    let l = c.args.together.now.fitted.lists in
     sym (c.loop-i.invariant.3 ∙ guids_none (guid_of l.words.now (run_of l.capacities l.counts (place TEMPLATES))) _ _ _ (omega (arith, c.loop-i.invariant.2.0, c.loop-i-test.false)))
 
 pub loop-i-preserved : goal.loop-i-preserved
 loop-i-preserved c =
-    let l = c.args.together.now.lists in
+    let l = c.args.together.now.fitted.lists in
     let list = run_of l.capacities l.counts (place TEMPLATES) in
     let h = subst (onward l.words.now list) c.in-Some.is c.advance.ensures.onward in
     let e = c.advance.ensures.walk_after ∙ ap (stepped l.words.now l.capacities l.counts c.args.guid.now c.args.key.now _) c.in-Some.is in

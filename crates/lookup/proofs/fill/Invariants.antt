@@ -11,7 +11,7 @@ use Rattle.lookup.proofs.fill.Given as goal
 
 abbrev pub invariant-loop-i : goal.invariant-loop-i
 invariant-loop-i l =
-    let a = l.together.lists in
+    let a = l.together.fitted.lists in
     let list = run_of a.capacities a.counts (place TEMPLATES) in
     let left = new_of a.words.now a.capacities a.counts l.guid l.key l.marks l.at in
     Stands a.words.now list l.at

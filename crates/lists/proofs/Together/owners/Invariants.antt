@@ -12,7 +12,7 @@ use Rattle.lists.proofs.Together.owners.Given as goal
 
 abbrev pub invariant-loop-i : goal.invariant-loop-i
 invariant-loop-i l =
-    let a = l.self.lists in
+    let a = l.self.fitted.lists in
     let left = rest (width TABLES) a.words.now l.tables.count l.tables.start l.i in
     (l.tables.start + width TABLES * l.tables.count ≤ length a.words.now)
     × (length l.owners ≡ 65536)
