@@ -14,6 +14,33 @@ ghost use Rattle.areas.specs.Areas.{providers, providers_in, roomy};
 
 use format::list::{AREAS, List};
 
+// Where a walk over the providers stands that keeps no number: the place of the next one's descriptor, and how many are left.
+#[derive(Clone, Copy)]
+pub struct Position {
+    pub at: usize,
+    pub left: u32,
+}
+
+impl Position {
+    // Before the first of n providers.
+    pub fn first(n: u32) -> Position
+        ensures { (result.at ≡ 16) × (result.left ≡ n) }
+    {
+        Position { at: 16, left: n }
+    }
+
+    // Behind the next one.
+    pub fn next(self) -> Position
+        requires { (self.at ≤ 16777216) × (1 ≤ self.left) }
+        ensures { (result.at ≡ self.at + 20) × (result.left ≡ self.left - 1) }
+    {
+        Position {
+            at: self.at + 20,
+            left: self.left - 1,
+        }
+    }
+}
+
 // Stores what a list, given by its number as to `provided::fill`, has of n providers that are fine.
 fn fill(b: &[u8], n: u32, list: u32, area: &mut [u32])
     requires n_in_bounds { (16 + 20 * n ≤ length b.now) × (length b.now ≤ 16777216) }

@@ -1,5 +1,5 @@
 -- What the code answers for an element, way by way.
-use Rattle.std.specs.Prelude.{ℕ, ◌+◌, ◌≤◌, ◌<◌, min, ◌≡◌, List, length, Ok, Err}
+use Rattle.std.specs.Prelude.{ℕ, zero, suc, ◌+◌, ◌≤◌, ◌<◌, min, ◌≡◌, List, length, Ok, Err}
 use Rattle.std.proofs.Math.Path.{refl, ap, sym}
 use Rattle.std.proofs.Common.{◌∙◌, arith, ne_eqb}
 use Rattle.blob.specs.Le.{le}
@@ -11,7 +11,7 @@ use Rattle.format.specs.Field.{unknown_element_header, unknown_element_end}
 use Rattle.format.specs.Refuse.{offset_out, truncated}
 use Rattle.format.specs.Region.{end_read}
 use Rattle.format.proofs.Theorems.Ends.{is_place, no_end}
-use Rattle.format.specs.Table.{EVNT, MAPS, TTBL, header_length, header_at, header_read, table_end}
+use Rattle.format.specs.Table.{EVNT, MAPS, TTBL, header_length, header_at, header_read, stride, table_end}
 use Rattle.format.specs.Definition.{definitions_at}
 use Rattle.format.specs.Template.{templates_at}
 use Rattle.format.specs.Map.{maps_at}
@@ -95,3 +95,16 @@ module _ (k at : ℕ) (s : List ℕ) (known : 1 ≤ k) where
 
     pub header-fits : at + header_length k ≤ length s
     header-fits = (header-words s k at h (is_header _ h f)).0
+
+-- a record of definitions has at least 12 bytes
+pub record_least : (k : ℕ) → 1 ≤ k → k ≤ 8 → (k ≡ MAPS → ⊥) → (k ≡ TTBL → ⊥) → 12 ≤ stride k
+record_least zero l g m t = absurd (omega arith)
+record_least (suc zero) l g m t = omega arith
+record_least (suc (suc zero)) l g m t = omega arith
+record_least (suc (suc (suc zero))) l g m t = omega arith
+record_least (suc (suc (suc (suc zero)))) l g m t = omega arith
+record_least (suc (suc (suc (suc (suc zero))))) l g m t = absurd (m refl)
+record_least (suc (suc (suc (suc (suc (suc zero)))))) l g m t = omega arith
+record_least (suc (suc (suc (suc (suc (suc (suc zero))))))) l g m t = omega arith
+record_least (suc (suc (suc (suc (suc (suc (suc (suc zero)))))))) l g m t = absurd (t refl)
+record_least (suc (suc (suc (suc (suc (suc (suc (suc (suc k))))))))) l g m t = absurd (omega arith)

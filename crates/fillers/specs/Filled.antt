@@ -1,5 +1,5 @@
 -- What a filler of a list needs of a table that is fine, and that it then has stored what the list has of it.
-use Rattle.std.specs.Prelude.{ℕ, suc, ◌+◌, ◌*◌, ◌≤◌, ◌<◌, ◌≡◌, true, length, get_or, set, Ok}
+use Rattle.std.specs.Prelude.{ℕ, zero, suc, ◌+◌, ◌*◌, ◌≤◌, ◌<◌, ◌≡◌, true, length, get_or, set, Ok}
 use Rattle.std.proofs.Math.Path.{refl, ap, sym}
 use Rattle.std.proofs.Common.{◌∙◌, subst, mul-suc, arith, length-append, length-set, get_or-set_same}
 use mathlib.Core.List.{List, [], ◌∷◌, map, append-nil}
@@ -10,7 +10,6 @@ use Rattle.blob.proofs.Laws.{fine-value, length-flat}
 use Rattle.format.specs.Area as list
 use Rattle.format.specs.Area.{TABLES, DEFINITIONS, EVENTS, ENTRIES, TEMPLATES, ITEMS, AREAS, place, of, more, width}
 use Rattle.format.specs.Table.{EVNT, MAPS, TTBL, kind_list, stride}
-use Rattle.format.specs.Kinds.{number}
 use Rattle.format.specs.Definition.{step, definitions_at}
 use Rattle.format.specs.Event.{event_at}
 use Rattle.format.specs.Template.{Template, templates_at}
@@ -20,22 +19,22 @@ use Rattle.format.specs.Lists.{definitions_in, events_in, maps_in, templates_in,
 use Rattle.format.specs.Steps.Needs.{total, entry_count, item_count}
 use Rattle.format.specs.Steps.Parts.{Counted, TablesRoom, TablesStored, table_part, table_parts, behind, behind_all}
 use Rattle.format.specs.declared.Header.{Header}
-use Rattle.format.specs.declared.kind.Kind.{Kind}
-use Rattle.format.specs.declared.kind.Kind.TheVariants.{Chan, Evnt, Keyw, Levl, Maps, Opco, Task, Ttbl}
 use Rattle.counts.specs.Short.{kind_row}
 use Rattle.fillers.specs.declared.Trailing.{Trailing}
 use Rattle.fillers.specs.Rows.{only, holds_definitions, has_entries, trailing_of, definitions-in, events-in, maps-in, templates-in, table-words, table-behind}
 
 -- tables that have definitions have records
-pub definitions-stride : (k : Kind) → holds_definitions (number k) ≡ true → 12 ≤ stride (number k)
-definitions-stride Chan e = omega arith
-definitions-stride Evnt e = absurd (let z : ◌≡◌ {A = ℕ} 0 1 = cc in omega arith)
-definitions-stride Keyw e = omega arith
-definitions-stride Levl e = omega arith
-definitions-stride Maps e = absurd (let z : ◌≡◌ {A = ℕ} 0 1 = cc in omega arith)
-definitions-stride Opco e = omega arith
-definitions-stride Task e = omega arith
-definitions-stride Ttbl e = absurd (let z : ◌≡◌ {A = ℕ} 0 1 = cc in omega arith)
+pub definitions-stride : (k : ℕ) → 1 ≤ k → k ≤ 8 → holds_definitions k ≡ true → 12 ≤ stride k
+definitions-stride zero h g e = absurd (omega arith)
+definitions-stride (suc zero) h g e = omega arith
+definitions-stride (suc (suc zero)) h g e = absurd (let z : ◌≡◌ {A = ℕ} 0 1 = cc in omega arith)
+definitions-stride (suc (suc (suc zero))) h g e = omega arith
+definitions-stride (suc (suc (suc (suc zero)))) h g e = omega arith
+definitions-stride (suc (suc (suc (suc (suc zero))))) h g e = absurd (let z : ◌≡◌ {A = ℕ} 0 1 = cc in omega arith)
+definitions-stride (suc (suc (suc (suc (suc (suc zero)))))) h g e = omega arith
+definitions-stride (suc (suc (suc (suc (suc (suc (suc zero))))))) h g e = omega arith
+definitions-stride (suc (suc (suc (suc (suc (suc (suc (suc zero)))))))) h g e = absurd (let z : ◌≡◌ {A = ℕ} 0 1 = cc in omega arith)
+definitions-stride (suc (suc (suc (suc (suc (suc (suc (suc (suc k))))))))) h g e = absurd (omega arith)
 
 -- a list that is none of the others is taken for that of templates
 module _ (l : ℕ) (t : l ≡ TABLES → ⊥) (d : l ≡ DEFINITIONS → ⊥) (e : l ≡ EVENTS → ⊥) (m : l ≡ list.MAPS → ⊥) (n : l ≡ ENTRIES → ⊥) (i : l ≡ ITEMS → ⊥) where

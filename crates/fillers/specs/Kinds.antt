@@ -109,10 +109,10 @@ module _ (s : List ℕ) (n at k : ℕ) (v : verdict (run (elements_from n at) s)
       let t = kept_here s n at k v place p h in
       ap₂ (λ o g. run (table_at k o g) s) (sym t.2) (ap (headed s) (sym t.2) ∙ sym t.3.words) ∙ t.3.found
 
-  stands : Stands s k place
+  pub stands : Stands s k place
   stands h = let t = kept_here s n at k v place p h in (rw t.2 at t.3.fits, ap verdict (found h))
 
-  kept-at : length s ≤ 16777216 → last_of k (values (run (elements_from n at) s)) ≡ kept_at s k place
+  pub kept-at : length s ≤ 16777216 → last_of k (values (run (elements_from n at) s)) ≡ kept_at s k place
   kept-at l = go (eqb place 4294967295) refl
     where
       go : (b : Bool) → eqb place 4294967295 ≡ b

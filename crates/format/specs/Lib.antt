@@ -4,7 +4,6 @@ pub mod Refuse
 pub mod Region
 pub mod Name
 pub mod Area
-pub mod Named
 pub mod Entry
 pub mod Table
 pub mod Definition
@@ -27,5 +26,6 @@ pub mod Rests
 -- What the building blocks speak of besides, on the way there.
 pub mod Steps
 pub mod Kinds
+pub mod Named
 -- What a theorem supposes.
 pub mod Theorems

@@ -1,8 +1,7 @@
--- The lists with an area, by name: the number of each, and which list has a row.
-use Rattle.std.specs.Prelude.{ℕ, get_or}
+-- The lists with an area, by name: the number of each.
+use Rattle.std.specs.Prelude.{ℕ}
 use Rattle.format.specs.Area as area
 use Rattle.format.specs.declared.list.List as list
-use Rattle.format.specs.declared.list.TheConstants.List.{ALL}
 use Rattle.format.specs.declared.list.List.TheVariants.{Providers, Descriptors, Unknown2, Tables, Definitions, Events, Maps, Entries, Templates, Unknown, Items}
 
 abbrev pub number_of : list.List → ℕ
@@ -17,6 +16,3 @@ number_of Entries = area.ENTRIES
 number_of Templates = area.TEMPLATES
 number_of Unknown = area.UNKNOWN
 number_of Items = area.ITEMS
-
-abbrev pub list_at : ℕ → list.List
-list_at row = get_or ALL row Providers

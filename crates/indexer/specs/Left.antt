@@ -28,7 +28,7 @@ module _ {bs xs ys : List ℕ} (s : Split bs xs ys) where
   pub bytes-laid : (lent lent' : List ℕ) (to to' : ℕ) → lent' ≡ laid lent to xs → to' ≡ to + length xs → laid lent' to' ys ≡ laid lent to bs
   bytes-laid lent lent' to to' e g = rw (e, g, s.equal) (sym (laid_more lent to xs ys))
 
-bytes-none : (bs lent : List ℕ) (to : ℕ) → bs ≡ [] → laid lent to bs ≡ lent
+pub bytes-none : (bs lent : List ℕ) (to : ℕ) → bs ≡ [] → laid lent to bs ≡ lent
 unfolding laid
 bytes-none bs lent to e = ap (laid lent to) e
 
@@ -107,7 +107,7 @@ module _ (owner : ℕ) (e : Entry) where
   unfolding flat
   mine-one h ns g = rw (ne_eqb _ _ h, g) (ap (flat form) (sym (append-nil (entry_of (owner ∷ e)))))
 
-  mine-count : length (mine owner e) ≡ one_of owner
+  pub mine-count : length (mine owner e) ≡ one_of owner
   mine-count = go (eqb owner NOBODY)
     where
       go : (t : Bool) → length (choose t [] ((owner ∷ e) ∷ [])) ≡ choose t 0 1
@@ -149,7 +149,7 @@ module _ (owners words : List ℕ) (n at : ℕ) where
     abbrev own : List Entry
     own = mine (get_or owners i 0) (event_at words (at + width EVENTS * i))
 
-    listed_more : i < n → listed_left i ≡ own ++ listed_left (i + 1)
+    pub listed_more : i < n → listed_left i ≡ own ++ listed_left (i + 1)
     unfolding listed_from
     listed_more h = ap (listed_from owners i) (rest_more (width EVENTS) words n at i h)
 

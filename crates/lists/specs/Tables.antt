@@ -17,12 +17,15 @@ use Rattle.format.specs.Lists.{Entry}
 use Rattle.format.specs.Lookup.{entries_from, entries_of, word_of, select, position, every, table_fits, tables_fit, range_of}
 use Rattle.lists.specs.declared.Run.{Run}
 use Rattle.lists.specs.Entries.{part-entries, entry, entries-length}
-use Rattle.lists.specs.Found.{entries, run_of, has, found, Fit, table_of, range_in}
+use Rattle.lists.specs.Found.{entries, few, run_of, has, found, Fit, table_of, range_in}
 use Rattle.lists.specs.Fit.{inside, whole-entries}
 use Rattle.lists.specs.Search.{position-same, has-two, position-found, select-found, select-none}
 
 -- a TTBL's range of all templates, as a run
 module _ (words : List ℕ) (templates : Run) (z : templates.first ≡ 0) (t : Entry) (h : word_of TABLE_FIRST t + word_of TABLE_COUNT t ≤ templates.count) where
+  pub range-few : few (width TEMPLATES) templates words → few (width TEMPLATES) (range_in templates.start (t ∷ [])) words
+  range-few f = (omega arith, omega arith)
+
   pub range-entries : range_of (entries (width TEMPLATES) templates words) t ≡ entries (width TEMPLATES) (range_in templates.start (t ∷ [])) words
   range-entries =
       let s : templates.start + width TEMPLATES * templates.first ≡ templates.start = omega arith in

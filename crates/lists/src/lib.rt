@@ -89,7 +89,8 @@ pub fn find(words: &[u32], run: Run, list: List, from: usize, key: &[u32]) -> Op
     None
 }
 
-// The lowest of some templates at an offset.
+// The lowest of some templates at an offset. (Never inlined: within the walk over events its loop had no register left for the offset.)
+#[inline(never)]
 pub fn at_offset(words: &[u32], templates: Run, offset: u32) -> Option<u32>
     requires { spec.few (area.width area.TEMPLATES) templates words.now }
     ensures { result ≡ spec.found (spec.lowest words.now templates offset) }
@@ -130,7 +131,8 @@ impl<'a> Lists<'a> {
         }
     }
 
-    // 8, and 10 for a count over its capacity.
+    // 8, and 10 for a count over its capacity. (Always inlined: what is handed on, 112 bytes, is then not copied.)
+    #[inline(always)]
     pub fn fit(&self) -> Result<Fitted<'a>, Refusal>
         ensures { MatchResult result (λ f. (f.lists ≡ self.now) × (spec.fit self.now.words.now self.now.capacities self.now.counts ≡ Ok tt))
             (λ r. spec.fit self.now.words.now self.now.capacities self.now.counts ≡ Err r) }

@@ -1,10 +1,10 @@
 -- One map more: what it makes of the maps that are left, of the count of entries, and of the words of lists 7 and 8.
-use Rattle.std.specs.Prelude.{ℕ, ◌+◌, ◌-◌, ◌*◌, ◌≤◌, ◌<◌, ◌≡◌, refl, List, ◌∷◌, ◌++◌, length, Ok, Result}
+use Rattle.std.specs.Prelude.{ℕ, ◌+◌, ◌-◌, ◌*◌, ◌≤◌, ◌<◌, ◌≡◌, refl, List, ◌∷◌, ◌++◌, length, Ok, Err, Result}
 use Rattle.std.proofs.Math.Path.{ap}
 use Rattle.std.proofs.Common.{sym, ◌∙◌}
 use Rattle.blob.specs.declared.Refusal.{Refusal}
 use Rattle.blob.specs.Laid.{laid, flat}
-use Rattle.blob.specs.Reading.{Outcome, done, refused, run, many, verdict, values}
+use Rattle.blob.specs.Reading.{Outcome, done, run, many, verdict, values}
 use Rattle.blob.proofs.Laws.{not_fine, many_more, many-stop, many-length, values-more, values-none, fill_more, length-flat}
 use Rattle.format.specs.Area.{MAPS, ENTRIES, width}
 use Rattle.format.specs.Definition.{step}
@@ -14,7 +14,7 @@ use Rattle.format.specs.Steps.Needs.{total, entry_count}
 use Rattle.format.proofs.Theorems.Counting as counting
 use Rattle.format.specs.Lists.{map_words, map_entry_words, map_list}
 use Rattle.format.specs.declared.Map.{Map}
-use Rattle.map.specs.Decides.{entries, entries-fine, Told, is_map}
+use Rattle.map.specs.Decides.{entries, entries-fine, Told, is_map, is_refused}
 use Rattle.map.specs.Listed.{listed_at, listed-told}
 
 -- what reading the maps that are left finds
@@ -47,9 +47,9 @@ unfolding total
 count_none e start first s left place h = ap entry_count (values-none (listed_at e start first) (step 4) left place s h)
 
 module _ (e start first : ℕ) (s : List ℕ) (left place : ℕ) (h : 0 < left) where
-  pub never_refused : (r : Refusal) → run (listed_at e start first place) s ≡ refused r → verdict (unread e start first s left place) ≡ Ok tt → ⊥
+  pub never_refused : (r : Refusal) → Err r ≡ map_read (run (listed_at e start first place) s) → verdict (unread e start first s left place) ≡ Ok tt → ⊥
   never_refused r f v =
-      not_fine r (sym (many-stop (listed_at e start first) (step 4) left place s r h f) ∙ v)
+      not_fine r (sym (many-stop (listed_at e start first) (step 4) left place s r h (is_refused _ r f)) ∙ v)
 
   module _ (i : e ≤ length s) (x : Map) (f : Ok x ≡ map_read (run (listed_at e start first place) s)) where
     -- the map that was read

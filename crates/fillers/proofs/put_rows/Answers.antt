@@ -3,6 +3,7 @@ use mathlib.Core.Path.{sym, ◌∙◌}
 use borrow.Author.Rules.{rules}
 use Rattle.blob.specs.Reading.{run}
 use Rattle.format.specs.Kinds.{number}
+use Rattle.format.proofs.Theorems.Kinds.{one_of-eight}
 use Rattle.format.specs.Provider.{table_at}
 use borrow.Author.Tests.{eqb-true}
 use Rattle.fillers.specs.Rows.{header-as}
@@ -17,7 +18,7 @@ pub fill_definitions-requires : goal.fill_definitions-requires
 fill_definitions-requires c =
     let q = rw c.in-5.is at c.requires.kind_value in
     let x = fills_definitions _ _ _ _ c.requires.b_value q c.args.number c.args.before.now c.args.area.now (rw c.in-5.is at c.requires.tables_room) in
-    record { kind_bound = (definitions-stride c.args.kind q, c.requires.header_in_bounds.0); b_len_bound = c.requires.header_in_bounds.1; b_value = x.0; count_in_bounds = x.1 }
+    record { kind_bound = (definitions-stride (number c.args.kind) (one_of-eight c.args.kind).0 (one_of-eight c.args.kind).1 q, c.requires.header_in_bounds.0); b_len_bound = c.requires.header_in_bounds.1; b_value = x.0; count_in_bounds = x.1 }
 
 pub fill_events-requires : goal.fill_events-requires
 fill_events-requires c =

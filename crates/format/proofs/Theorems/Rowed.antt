@@ -1,11 +1,16 @@
--- The lists by name are those of the rows, in their order.
+-- The lists by name, as the code has them in their order (`List::ALL`), are those of the rows.
 use Rattle.std.specs.Prelude.{ℕ, ◌<◌, ◌≡◌, refl, map, eqb, get_or}
 use Rattle.std.proofs.Common.{eqb-true, ap, sym, ◌∙◌}
 use Rattle.blob.proofs.Laws.{passes}
 use Rattle.format.specs.Area.{rows, AREAS, place}
-use Rattle.format.specs.Named.{number_of, list_at}
+use Rattle.format.specs.Named.{number_of}
 use Rattle.format.specs.declared.list.List as list
+use Rattle.format.specs.declared.list.TheConstants.List.{ALL}
 use Rattle.format.specs.declared.list.List.TheVariants.{Providers, Descriptors, Unknown2, Tables, Definitions, Events, Maps, Entries, Templates, Unknown, Items}
+
+-- which list has a row
+abbrev pub list_at : ℕ → list.List
+list_at row = get_or ALL row Providers
 
 module _ (row : ℕ) (h : row < AREAS) where
   pub place-at : place (number_of (list_at row)) ≡ row

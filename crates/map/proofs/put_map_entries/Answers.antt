@@ -1,16 +1,17 @@
 -- The invariant: what is left decides. The entries of the maps that are left, laid from here, make the area what it shall be.
-use mathlib.Core.Path.{refl, sym, ◌∙◌}
+use mathlib.Core.Path.{refl, sym, ap, ◌∙◌}
 use Prim.Native.Nat.{◌-◌, ◌≤◌, ◌<◌}
 use native.Mathlib.Omega.{arith}
 use Rattle.blob.specs.Laid.{flat}
 use Rattle.blob.proofs.Laws.{fill_none, not_refused, one_on}
 use Rattle.format.specs.Definition.{step}
 use Rattle.map.specs.Listed.{listed_at}
+use Rattle.format.specs.Map.{map_read}
 use Rattle.map.specs.Next.{entries_words, count_none, never_refused, next-inside, next-fine, next-count, next-entries}
 use Rattle.map.proofs.put_map_entries.Goals as goal
 
 pub unwrap-m-requires : goal.unwrap-m-requires
-unwrap-m-requires c = rw c.listed_at.ensures (not_refused _ _ (λ r e. never_refused _ _ _ _ _ _ (omega arith) r e c.loop-i.invariant.1))
+unwrap-m-requires c = rw c.listed_at.ensures (not_refused _ _ (λ r e. never_refused _ _ _ _ _ _ (omega arith) r (sym (ap map_read e)) c.loop-i.invariant.1))
 
 pub put_entries-requires : goal.put_entries-requires
 put_entries-requires c =

@@ -1,5 +1,5 @@
 -- The invariant: what is left decides. The maps that are left, laid from here, make the area what it shall be, and are fine.
-use mathlib.Core.Path.{refl, sym, ◌∙◌}
+use mathlib.Core.Path.{refl, sym, ap, ◌∙◌}
 use Prim.Native.Nat.{◌+◌, ◌-◌, ◌*◌, ◌≤◌, ◌<◌}
 use mathlib.Core.Path.{◌≡◌}
 use native.Mathlib.Omega.{arith}
@@ -9,11 +9,12 @@ use Rattle.blob.proofs.Laws.{fill_none, not_refused, one_on}
 use Rattle.format.specs.Definition.{step}
 use Rattle.format.specs.Lists.{map_list}
 use Rattle.map.specs.Listed.{listed_at}
+use Rattle.format.specs.Map.{map_read}
 use Rattle.map.specs.Next.{maps_words, count_none, never_refused, next-fine, next-count, next-maps}
 use Rattle.map.proofs.put_maps.Goals as goal
 
 pub unwrap-m-requires : goal.unwrap-m-requires
-unwrap-m-requires c = rw c.listed_at.ensures (not_refused _ _ (λ r e. never_refused _ _ _ _ _ _ (omega arith) r e c.loop-i.invariant.0))
+unwrap-m-requires c = rw c.listed_at.ensures (not_refused _ _ (λ r e. never_refused _ _ _ _ _ _ (omega arith) r (sym (ap map_read e)) c.loop-i.invariant.0))
 
 pub overflow_add-entries : goal.overflow_add-entries
 overflow_add-entries c =
