@@ -89,8 +89,7 @@ pub fn find(words: &[u32], run: Run, list: List, from: usize, key: &[u32]) -> Op
     None
 }
 
-// The lowest of some templates at an offset. (Never inlined: within the walk over events its loop had no register left for the offset.)
-#[inline(never)]
+// The lowest of some templates at an offset.
 pub fn at_offset(words: &[u32], templates: Run, offset: u32) -> Option<u32>
     requires { spec.few (area.width area.TEMPLATES) templates words.now }
     ensures { result ≡ spec.found (spec.lowest words.now templates offset) }
@@ -131,11 +130,9 @@ impl<'a> Lists<'a> {
         }
     }
 
-    // 8, and 10 for a count over its capacity. (Always inlined: what is handed on, 112 bytes, is then not copied.)
-    #[inline(always)]
-    pub fn fit(&self) -> Result<Fitted<'a>, Refusal>
-        ensures { MatchResult result (λ f. (f.lists ≡ self.now) × (spec.fit self.now.words.now self.now.capacities self.now.counts ≡ Ok tt))
-            (λ r. spec.fit self.now.words.now self.now.capacities self.now.counts ≡ Err r) }
+    // 8, and 10 for a count over its capacity.
+    pub fn fits(&self) -> Result<(), Refusal>
+        ensures { result ≡ spec.fit self.now.words.now self.now.capacities self.now.counts }
     {
         if !counts::lent_enough(self.capacities, self.words.len()) {
             return Err(bounds::own(8));
@@ -143,6 +140,15 @@ impl<'a> Lists<'a> {
         if !counts_fit(self.counts, self.capacities) {
             return Err(bounds::own(10));
         }
+        Ok(())
+    }
+
+    // The same, and hands on what was tested.
+    pub fn fit(&self) -> Result<Fitted<'a>, Refusal>
+        ensures { MatchResult result (λ f. (f.lists ≡ self.now) × (spec.fit self.now.words.now self.now.capacities self.now.counts ≡ Ok tt))
+            (λ r. spec.fit self.now.words.now self.now.capacities self.now.counts ≡ Err r) }
+    {
+        self.fits()?;
         Ok(Fitted { lists: *self })
     }
 
@@ -256,7 +262,9 @@ impl<'a> Fitted<'a> {
         true
     }
 
-    // The entries that a provider's first table of a kind has in the kind's list; none where it has no such table.
+    // The entries that a provider's first table of a kind has in the kind's list; none where it has no such table. (Never inlined: the
+    // loop over the tables stands by itself, and is as fast wherever it is called from.)
+    #[inline(never)]
     pub fn owned(&self, provider: u32, kind: Kind) -> Run
         ensures { result ≡ spec.owned self.now.lists.words.now self.now.lists.capacities self.now.lists.counts provider (kinds.number kind) }
     {

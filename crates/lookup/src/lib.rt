@@ -35,7 +35,7 @@ pub fn template_at(
 ) -> Result<Option<u32>, Refusal>
     ensures { right.AllowedAt lists.now.words.now lists.now.capacities lists.now.counts provider first count offset result }
 {
-    lists.fit()?;
+    lists.fits()?;
     if (lists.counts[row::TEMPLATES] as u64) < (first as u64) + (count as u64) {
         return Err(bounds::own(10));
     }
@@ -98,7 +98,9 @@ fn mark(words: &[u32], list: Run, guid: &[u32], marks: &mut [bool; 65536])
     }
 }
 
-// The next of some events that gives a GUID which is not marked; of all templates, those that have it are marked then.
+// The next of some events that gives a GUID which is not marked; of all templates, those that have it are marked then. (Never inlined:
+// within `advance` no register was left for the offset that is looked for.)
+#[inline(never)]
 fn next_new(
     words: &[u32],
     events: Run,
