@@ -14,7 +14,7 @@ ghost use Rattle.areas.specs.Areas.{providers, providers_in, roomy};
 
 use format::list::{AREAS, List};
 
-// Where a walk over the providers stands that keeps no number: the place of the next one's descriptor, and how many are left.
+// Where a walk over the providers stands, if it keeps no number: the place of the next one's descriptor, and how many are left.
 #[derive(Clone, Copy)]
 pub struct Position {
     pub at: usize,
